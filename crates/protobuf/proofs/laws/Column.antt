@@ -1,0 +1,72 @@
+-- The laws of a column that readers use: the values from p are the value at p and the values from the next place; what one step of a
+-- reader finds.
+use Prim.Native.Nat.{ℕ, suc, _+_, _≤_, _<_}
+use mathlib.Core.Path.{_≡_, refl, sym, ap, _∙_}
+use mathlib.Core.List.{List}
+use mathlib.Core.Bool.{Bool, true, false}
+use native.Mathlib.Omega.{arith}
+use lib.ListN.{length, take}
+use lib.Seq.{length-take-le}
+use lib.Dec.{leb, eqb}
+use borrow.Author.Tests.{le-leb, lt-leb, eq-eqb, ne-eqb}
+use Rattle.protobuf.specs.declared.refusal.Refusal.{Refusal}
+use Rattle.protobuf.specs.declared.refusal.Refusal.the-variants.{Outside}
+use Rattle.protobuf.specs.Read.{Read, taken, refused, choose}
+use Rattle.protobuf.specs.Varint.{varint}
+use Rattle.protobuf.specs.Stream.{Stream, end, more, Item, last, item, follow, unrolled}
+use Rattle.protobuf.specs.Column.{ColumnEnd, ended, cut, Column, orCut, valueAt, columnFrom, stepAt}
+use Rattle.protobuf.proofs.laws.Read.{reached}
+use Rattle.protobuf.proofs.laws.Varint.{varint-reach}
+use Rattle.protobuf.proofs.laws.Stream.{Forward, unroll}
+
+-- ---- the value at a place
+
+module _ (s : List ℕ) (p : ℕ) where
+  pub value-end : p ≡ length s → valueAt s p ≡ last ended
+  unfolding valueAt
+  value-end e = simp (eq-eqb _ _ e)
+
+  pub value-by : (p ≡ length s → ⊥) → {r : Read ℕ} → varint s p ≡ r → valueAt s p ≡ orCut r
+  unfolding valueAt
+  value-by h e = simp (ne-eqb _ _ h) (ap orCut e)
+
+-- ---- one step
+
+module _ (s : List ℕ) (p e : ℕ) where
+  pub step-past : e < p → stepAt s p e ≡ last (cut Outside)
+  unfolding stepAt
+  step-past h = simp (lt-leb _ _ h)
+
+  pub step-outside : p ≤ e → length s < e → stepAt s p e ≡ last (cut Outside)
+  unfolding stepAt
+  step-outside h k = simp (le-leb _ _ h, lt-leb _ _ k)
+
+  module _ (h : p ≤ e) (k : e ≤ length s) where
+    pub step-inside : stepAt s p e ≡ valueAt (take e s) p
+    unfolding stepAt
+    step-inside = simp (le-leb _ _ h, le-leb _ _ k)
+
+    pub step-end : p ≡ e → stepAt s p e ≡ last ended
+    step-end eq = step-inside ∙ value-end (take e s) p (eq ∙ sym (length-take-le e s k))
+
+    pub step-by : (p ≡ e → ⊥) → {r : Read ℕ} → varint (take e s) p ≡ r → stepAt s p e ≡ orCut r
+    step-by ne g = step-inside ∙ value-by (take e s) p (λ eq. ne (eq ∙ length-take-le e s k)) g
+
+-- ---- the stream
+
+module _ (s : List ℕ) where
+  from-varint : (p : ℕ) (r : Read ℕ) {v q : ℕ} → varint s p ≡ r → orCut r ≡ item v q → varint s p ≡ taken v q
+  from-varint p (taken v q) e g = e ∙ cc
+  from-varint p (refused n) e g = absurd (let z : _≡_ {A = ℕ} 0 1 = cc in omega arith)
+
+  forward : (p : ℕ) (b : Bool) {v q : ℕ} → choose b (last ended) (orCut (varint s p)) ≡ item v q → (p < q) × (q ≤ length s)
+  forward p true g = absurd (let z : _≡_ {A = ℕ} 0 1 = cc in omega arith)
+  forward p false g = reached (varint-reach s p) (from-varint p (varint s p) refl g)
+
+  pub values-forward : Forward (valueAt s) (length s)
+  unfolding valueAt
+  values-forward = record { moves = λ p q v e. forward p (eqb p (length s)) e }
+
+  pub column-from : (p : ℕ) → columnFrom s p ≡ follow (valueAt s p) (columnFrom s)
+  unfolding columnFrom
+  column-from p = unroll values-forward ended p

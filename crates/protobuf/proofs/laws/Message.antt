@@ -1,0 +1,65 @@
+-- The laws of a message that views use: the fields from p are the field at p and the fields from the next place; a next place is behind
+-- its field's and within the bytes; a part lies within its message.
+use Prim.Native.Nat.{ℕ, suc, _+_, _≤_, _<_}
+use mathlib.Core.Path.{_≡_, refl, sym, ap, _∙_}
+use mathlib.Core.List.{List}
+use native.Mathlib.Omega.{arith}
+use lib.ListN.{length}
+use lib.Dec.{leb}
+use borrow.Author.Tests.{le-leb, lt-leb}
+use Rattle.protobuf.specs.declared.refusal.Refusal.{Refusal}
+use Rattle.protobuf.specs.declared.refusal.Refusal.the-variants.{Outside}
+use Rattle.protobuf.specs.Read.{Read, taken, refused, andThen, choose}
+use Rattle.protobuf.specs.Tag.{Tag, TagAt, done, tagged, untagged, tagAt, wireType}
+use Rattle.protobuf.specs.Payload.{Payload, valueBy, groupBy, payload}
+use Rattle.protobuf.specs.Stream.{Stream, end, more, Item, last, item, follow, unrolled}
+use Rattle.protobuf.specs.Message.{Field, MessageEnd, complete, cut, spoilt, Message, withPayload, withTag, fieldAt, messageFrom}
+use Rattle.protobuf.proofs.laws.Read.{Reach, nowhere, reach-choose, reached}
+use Rattle.protobuf.proofs.laws.Tag.{tag-reach, tagged-tag}
+use Rattle.protobuf.proofs.laws.Group.{payload-reach}
+use Rattle.protobuf.proofs.laws.Stream.{Forward, unroll}
+
+-- ---- one field
+
+module _ (s : List ℕ) (p : ℕ) where
+  pub complete-at : tagAt s p ≡ done → fieldAt s p ≡ last complete
+  unfolding fieldAt
+  complete-at e = ap (withTag s) e
+
+  pub cut-at : {n : Refusal} → tagAt s p ≡ untagged n → fieldAt s p ≡ last (cut n)
+  unfolding fieldAt
+  cut-at e = ap (withTag s) e
+
+  pub spoilt-at : {t : Tag} {q : ℕ} {n : Refusal} → tagAt s p ≡ tagged t q → payload s t q ≡ refused n → fieldAt s p ≡ last (spoilt t n)
+  unfolding fieldAt
+  spoilt-at {t} e g = ap (withTag s) e ∙ ap (withPayload t) g
+
+  pub field-at : {t : Tag} {q r : ℕ} {v : Payload} → tagAt s p ≡ tagged t q → payload s t q ≡ taken v r → fieldAt s p ≡ item (record { tag = t; payload = v }) r
+  unfolding fieldAt
+  field-at {t} e g = ap (withTag s) e ∙ ap (withPayload t) g
+
+-- ---- the next place
+
+module _ (s : List ℕ) where
+  place : Item Field MessageEnd → ℕ
+  place (last e) = 0
+  place (item f q) = q
+
+  read-payload : (t : Tag) (r : Read Payload) {f : Field} {q : ℕ} → withPayload t r ≡ item f q → (v : Payload) × (r ≡ taken v q)
+  unfolding place
+  read-payload t (taken v r) e = (v, ap (λ (n : ℕ). taken v n) (ap place e))
+  read-payload t (refused n) e = absurd (let z : _≡_ {A = ℕ} 0 1 = cc in omega arith)
+
+  forward : (p : ℕ) (a : TagAt) {f : Field} {q : ℕ} → tagAt s p ≡ a → withTag s a ≡ item f q → (p < q) × (q ≤ length s)
+  forward p done e g = absurd (let z : _≡_ {A = ℕ} 0 1 = cc in omega arith)
+  forward p (untagged n) e g = absurd (let z : _≡_ {A = ℕ} 0 1 = cc in omega arith)
+  forward p (tagged t r) e g =
+      omega (arith, reached (tag-reach s p) (tagged-tag s p e .1), reached (payload-reach s t r) (read-payload t (payload s t r) g .1))
+
+  pub fields-forward : Forward (fieldAt s) (length s)
+  unfolding fieldAt
+  fields-forward = record { moves = λ p q f e. forward p (tagAt s p) refl e }
+
+  pub message-from : (p : ℕ) → messageFrom s p ≡ follow (fieldAt s p) (messageFrom s)
+  unfolding messageFrom
+  message-from p = unroll fields-forward complete p

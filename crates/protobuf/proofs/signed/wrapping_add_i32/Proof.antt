@@ -1,0 +1,44 @@
+-- `wrapping_add_i32` is right since the bits of a sum are the sum of the bits, modulo 2^32.
+use borrow.Author.Needs.{needs}
+use mathlib.Core.Path.{_∙_}
+use mir.Syntax.{w32}
+use Rattle.protobuf.proofs.laws.Signed.{twos-sum}
+use Rattle.protobuf.proofs.laws.Machine.{passed, returned}
+use Rattle.protobuf.proofs.signed.wrapping_add_i32.Statement.{statement}
+use Rattle.protobuf.proofs.signed.wrapping_add_i32.Tie as tie
+
+bits-i32-requires : tie.Need-bits-i32-requires
+bits-i32-requires c κs = search needs
+
+bits-i32-requires-2 : tie.Need-bits-i32-requires-2
+bits-i32-requires-2 c κs = search needs
+
+wrapping-add-u32-requires : tie.Need-wrapping-add-u32-requires
+wrapping-add-u32-requires c κs = search needs
+
+cast-int32 : tie.Need-cast-int32
+cast-int32 c = search needs
+
+int32-requires : tie.Need-int32-requires
+int32-requires c κs = search needs
+
+returns : tie.Need-returns
+returns c =
+    let s = c .before .before .before .before in
+    returned w32 (c .int32 .ok)
+    (c .int32 .ensures
+    ∙ twos-sum 32 (s .args .a) (s .args .b)
+    (passed w32 (s .fits .a) (c .before .before .before .bits-i32 .ensures))
+    (passed w32 (s .fits .b) (c .before .before .bits-i322 .ensures))
+    (c .before .wrapping-add-u32 .ensures))
+
+pub wrapping-add-i32-spec : {M : Type 1} → statement M
+wrapping-add-i32-spec =
+    tie.close
+    (tie.spec
+    bits-i32-requires
+    bits-i32-requires-2
+    wrapping-add-u32-requires
+    cast-int32
+    int32-requires
+    returns)

@@ -1,0 +1,19 @@
+-- `zigzag_i64` takes half of n, and complements it where n is odd: the complement of k is −(k + 1).
+use borrow.Author.Needs.{needs}
+use native.Mathlib.Omega.{arith}
+use mir.Syntax.{w64}
+use Rattle.protobuf.proofs.laws.Machine.{reads-zigzag, complemented-zigzag}
+use Rattle.protobuf.proofs.signed.zigzag_i64.Statement.{statement}
+use Rattle.protobuf.proofs.signed.zigzag_i64.Tie as tie
+
+cast-half : tie.Need-cast-half
+cast-half c = search needs
+
+returns : tie.Need-returns
+returns c = reads-zigzag w64 (c .before .args .n) (c .before .args .n) (omega arith) (c .if1 .taken)
+
+returns-2 : tie.Need-returns-2
+returns-2 c = complemented-zigzag w64 (c .before .args .n) (c .before .args .n) (omega arith) (c .if1 .left)
+
+pub zigzag-i64-spec : {M : Type 1} → statement M
+zigzag-i64-spec = tie.close (tie.spec cast-half returns returns-2)

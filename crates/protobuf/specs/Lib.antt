@@ -1,0 +1,12 @@
+-- Protocol Buffers' wire format, as definitions, from its encoding document and document 01, section 1. Read them in this order.
+pub mod Refusal
+pub mod Read
+pub mod Varint
+pub mod Tag
+pub mod Little
+pub mod Payload
+pub mod Stream
+pub mod Message
+pub mod Signed
+pub mod Column
+pub mod Answers

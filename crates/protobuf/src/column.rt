@@ -1,0 +1,56 @@
+// Columns: varints one after the other, read one at a time. What a column's type makes of each value is in `signed`.
+ghost use mathlib.Core.Path.{_≡_};
+ghost use Rattle.protobuf.specs.Column.{stepAt};
+ghost use Rattle.protobuf.specs.Answers.{stepBy, over};
+use crate::refusal::Refusal;
+use crate::varint::Varint;
+use crate::varint::read_varint;
+use crate::varint::refusal_of;
+
+// Where a reader of a column stands, and where the column ends. It has ended where the two are equal.
+pub struct Column {
+    pub at: usize,
+    pub end: usize,
+}
+
+// What the reader finds next, with its next state. A refusal ends it: its state is the ended one that is inside every buffer.
+pub enum Step {
+    Value { value: u64, next: Column },
+    Ended,
+    Refused { refusal: Refusal, next: Column },
+}
+
+fn refused(refusal: Refusal) -> Step
+    ensures { λ r. ⌜ r ≡ Step.Refused refusal over ⌝ }
+{
+    Step::Refused {
+        refusal,
+        next: Column { at: 0, end: 0 },
+    }
+}
+
+// The next value of a column: 14 unless the state is inside the bytes (at ≤ end ≤ length), then 2 and 3 of the varint, which may not pass
+// the column's end.
+pub fn next_value(s: &[u8], column: Column) -> Step
+    ensures { λ r. ⌜ r ≡ stepBy (column .end) (stepAt (now (s .entry)) (column .at) (column .end)) ⌝ }
+{
+    let at = column.at;
+    let end = column.end;
+    if end < at {
+        return refused(Refusal::Outside);
+    }
+    if s.len() < end {
+        return refused(Refusal::Outside);
+    }
+    if at == end {
+        return Step::Ended;
+    }
+    let r = read_varint(&s[..end], at);
+    let Varint::Value { value, next } = r else {
+        return refused(refusal_of(r));
+    };
+    Step::Value {
+        value,
+        next: Column { at: next, end },
+    }
+}
