@@ -2,6 +2,7 @@
 // lent bytes at a place, and answers what stands there with the place behind it, or a refusal of document 01's table; it writes nothing.
 // The definitions that the contracts cite are in specs/.
 pub mod column;
+pub mod message;
 pub mod payload;
 pub mod refusal;
 pub mod signed;

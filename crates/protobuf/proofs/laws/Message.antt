@@ -1,6 +1,6 @@
 -- The laws of a message that views use: the fields from p are the field at p and the fields from the next place; a next place is behind
 -- its field's and within the bytes; a part lies within its message.
-use Prim.Native.Nat.{ℕ, suc, _+_, _≤_, _<_}
+use Prim.Native.Nat.{ℕ, suc, _+_, _*_, _≤_, _<_}
 use mathlib.Core.Path.{_≡_, refl, sym, ap, _∙_}
 use mathlib.Core.List.{List}
 use native.Mathlib.Omega.{arith}
@@ -10,12 +10,12 @@ use borrow.Author.Tests.{le-leb, lt-leb}
 use Rattle.protobuf.specs.declared.refusal.Refusal.{Refusal}
 use Rattle.protobuf.specs.declared.refusal.Refusal.the-variants.{Outside}
 use Rattle.protobuf.specs.Read.{Read, taken, refused, andThen, choose}
-use Rattle.protobuf.specs.Tag.{Tag, TagAt, done, tagged, untagged, tagAt, wireType}
+use Rattle.protobuf.specs.Tag.{Tag, tagBy, split, TagAt, done, tagged, untagged, tagAt, wireType}
 use Rattle.protobuf.specs.Payload.{Payload, valueBy, groupBy, payload}
 use Rattle.protobuf.specs.Stream.{Stream, end, more, Item, last, item, follow, unrolled}
 use Rattle.protobuf.specs.Message.{Field, MessageEnd, complete, cut, spoilt, Message, withPayload, withTag, fieldAt, messageFrom}
 use Rattle.protobuf.proofs.laws.Read.{Reach, nowhere, reach-choose, reached}
-use Rattle.protobuf.proofs.laws.Tag.{tag-reach, tagged-tag}
+use Rattle.protobuf.proofs.laws.Tag.{tag-reach, tagged-tag, small-parts, split-joined}
 use Rattle.protobuf.proofs.laws.Group.{payload-reach}
 use Rattle.protobuf.proofs.laws.Stream.{Forward, unroll}
 
@@ -37,6 +37,17 @@ module _ (s : List ℕ) (p : ℕ) where
   pub field-at : {t : Tag} {q r : ℕ} {v : Payload} → tagAt s p ≡ tagged t q → payload s t q ≡ taken v r → fieldAt s p ≡ item (record { tag = t; payload = v }) r
   unfolding fieldAt
   field-at {t} e g = ap (withTag s) e ∙ ap (withPayload t) g
+
+  -- the same by the tag's value, put together from its parts
+  module _ {f w q : ℕ} (e : tagAt s p ≡ tagged (tagBy f w) q) where
+    joined : tagBy f w ≡ split (f * 8 + w)
+    joined = sym (split-joined f w (small-parts s p (tagged-tag s p e .1) .1))
+
+    pub spoilt-by : {n : Refusal} → payload s (tagBy f w) q ≡ refused n → fieldAt s p ≡ last (spoilt (split (f * 8 + w)) n)
+    spoilt-by {n} g = spoilt-at e g ∙ ap (λ (t : Tag). last (spoilt t n)) joined
+
+    pub field-by : {r : ℕ} {v : Payload} → payload s (tagBy f w) q ≡ taken v r → fieldAt s p ≡ item (record { tag = split (f * 8 + w); payload = v }) r
+    field-by {r} {v} g = field-at e g ∙ ap (λ (t : Tag). item (record { tag = t; payload = v }) r) joined
 
 -- ---- the next place
 

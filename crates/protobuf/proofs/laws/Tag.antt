@@ -1,5 +1,5 @@
 -- Laws of `tag` and `tagAt`: the four ways on from the varint, and that a tag ends behind its place.
-use Prim.Native.Nat.{ℕ, suc, _^_, _≤_, _<_}
+use Prim.Native.Nat.{ℕ, suc, _+_, _*_, _/_, _%_, _^_, _≤_, _<_}
 use mathlib.Core.Path.{_≡_, refl, sym, ap, _∙_}
 use mathlib.Core.Bool.{Bool, true, false}
 use mathlib.Core.Logic.{_⊎_, inl, inr, ⊎-elim}
@@ -7,12 +7,12 @@ use native.Mathlib.Omega.{arith}
 use mathlib.Core.List.{List}
 use lib.ListN.{length}
 use lib.Dec.{ltb, eqb}
-use borrow.Author.Tests.{lt-ltb, le-ltb, eq-eqb, ne-eqb, eqb-true, eqb-false}
+use borrow.Author.Tests.{lt-ltb, le-ltb, eq-eqb, ne-eqb, eqb-true, eqb-false, ltb-true}
 use Rattle.protobuf.specs.declared.refusal.Refusal.{Refusal}
 use Rattle.protobuf.specs.declared.refusal.Refusal.the-variants.{TagValue}
 use Rattle.protobuf.specs.Read.{Read, taken, refused, andThen, choose}
 use Rattle.protobuf.specs.Varint.{varint}
-use Rattle.protobuf.specs.Tag.{Tag, TagAt, done, tagged, untagged, due, split, legal, tag, tagAt}
+use Rattle.protobuf.specs.Tag.{Tag, tagBy, TagAt, done, tagged, untagged, due, split, legal, tag, tagAt}
 use Rattle.protobuf.proofs.laws.Read.{goes-on, handed-up, Reach, to, nowhere, reach-andThen, reach-choose}
 use Rattle.protobuf.proofs.laws.Varint.{varint-reach}
 
@@ -84,3 +84,39 @@ module _ (s : List ℕ) (p : ℕ) where
 
   pub untagged-tag : {n : Refusal} → tagAt s p ≡ untagged n → (p ≡ length s → ⊥) × (tag s p ≡ refused n)
   untagged-tag e = ⊎-elim (λ w. absurd (let z : _≡_ {A = ℕ} 0 1 = cc (w .1) in omega arith)) (λ w. (w .0, due-untagged (tag s p) (w .1))) (which e)
+
+-- ---- the tag's value from its parts
+
+tagIn : Tag → Read Tag → Tag
+tagIn other (taken t q) = t
+tagIn other (refused n) = other
+
+taken-legal : (v q : ℕ) {t : Tag} {r : ℕ} → legal v q ≡ taken t r → (v < 2 ^ 32) × (t ≡ split v)
+unfolding legal tagIn
+taken-legal v q {t} {r} e = by (ltb v 8) (ltb v (2 ^ 32)) refl e
+  where
+    by : (a b : Bool) → ltb v (2 ^ 32) ≡ b → choose a (refused TagValue) (choose b (taken (split v) q) (refused TagValue)) ≡ taken t r → (v < 2 ^ 32) × (t ≡ split v)
+    by true b h g = absurd (let z : _≡_ {A = ℕ} 0 1 = cc in omega arith)
+    by false true h g = (ltb-true _ _ h, sym (ap (tagIn (split v)) g))
+    by false false h g = absurd (let z : _≡_ {A = ℕ} 0 1 = cc in omega arith)
+
+-- a tag that was read is that of a value below 2^32
+pub value-of : (s : List ℕ) (p : ℕ) {t : Tag} {q : ℕ} → tag s p ≡ taken t q → (v : ℕ) × (v < 2 ^ 32) × (t ≡ split v)
+unfolding tag andThen
+value-of s p {t} {q} e = by (varint s p) e
+  where
+    by : (r : Read ℕ) → andThen r legal ≡ taken t q → (v : ℕ) × (v < 2 ^ 32) × (t ≡ split v)
+    by (taken v k) g = let h = taken-legal v k g in (v, h .0, h .1)
+    by (refused n) g = absurd (let z : _≡_ {A = ℕ} 0 1 = cc in omega arith)
+
+-- so its parts are small, and put together they are split again
+pub small-parts : (s : List ℕ) (p : ℕ) {t : Tag} {q : ℕ} → tag s p ≡ taken t q → (t .field < 2 ^ 29) × (t .wire < 8)
+small-parts s p {t} e =
+    let h = value-of s p e in
+    (rw (h .2) (omega (arith, h .1)), rw (h .2) (omega arith))
+
+pub split-joined : (f w : ℕ) → w < 8 → split (f * 8 + w) ≡ tagBy f w
+split-joined f w h =
+    let field : (f * 8 + w) / 8 ≡ f = omega arith in
+    let wire : (f * 8 + w) % 8 ≡ w = omega arith in
+    λ i. tagBy (field i) (wire i)
