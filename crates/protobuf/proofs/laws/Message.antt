@@ -1,7 +1,7 @@
 -- The laws of a message that views use: the fields from p are the field at p and the fields from the next place; a next place is behind
 -- its field's and within the bytes; a part lies within its message.
 use Prim.Native.Nat.{ℕ, suc, _+_, _*_, _≤_, _<_}
-use mathlib.Core.Path.{_≡_, refl, sym, ap, _∙_}
+use mathlib.Core.Path.{_≡_, refl, sym, ap, _∙_, subst}
 use mathlib.Core.List.{List}
 use native.Mathlib.Omega.{arith}
 use lib.ListN.{length}
@@ -17,7 +17,8 @@ use Rattle.protobuf.specs.Message.{Field, MessageEnd, complete, cut, spo
 use Rattle.protobuf.proofs.laws.Read.{Reach, nowhere, reach-choose, reached}
 use Rattle.protobuf.proofs.laws.Tag.{tag-reach, tagged-tag, small-parts, split-joined}
 use Rattle.protobuf.proofs.laws.Group.{payload-reach}
-use Rattle.protobuf.proofs.laws.Stream.{Forward, unroll}
+use Rattle.protobuf.proofs.laws.Within.{part-within}
+use Rattle.protobuf.proofs.laws.Stream.{Forward, unroll, Every, every}
 
 -- ---- one field
 
@@ -74,3 +75,28 @@ module _ (s : List ℕ) where
   pub message-from : (p : ℕ) → messageFrom s p ≡ follow (fieldAt s p) (messageFrom s)
   unfolding messageFrom
   message-from p = unroll fields-forward complete p
+
+  -- ---- a part lies within its message
+
+  fieldOr : Field → Item Field MessageEnd → Field
+  fieldOr other (last e) = other
+  fieldOr other (item f q) = f
+
+  payload-within : (t : Tag) (q : ℕ) (r : Read Payload) {f : Field} {k : ℕ} → payload s t q ≡ r → withPayload t r ≡ item f k → f .payload .start + f .payload .len ≤ length s
+  unfolding fieldOr
+  payload-within t q (taken v k) {f} e g =
+      subst (λ (x : Field). x .payload .start + x .payload .len ≤ length s) (ap (fieldOr f) g) (part-within s t q e)
+  payload-within t q (refused n) e g = absurd (let z : _≡_ {A = ℕ} 0 1 = cc in omega arith)
+
+  tag-within : (a : TagAt) {f : Field} {k : ℕ} → withTag s a ≡ item f k → f .payload .start + f .payload .len ≤ length s
+  tag-within done g = absurd (let z : _≡_ {A = ℕ} 0 1 = cc in omega arith)
+  tag-within (untagged n) g = absurd (let z : _≡_ {A = ℕ} 0 1 = cc in omega arith)
+  tag-within (tagged t q) g = payload-within t q (payload s t q) refl g
+
+  pub field-within : (p : ℕ) (f : Field) (q : ℕ) → fieldAt s p ≡ item f q → f .payload .start + f .payload .len ≤ length s
+  unfolding fieldAt
+  field-within p f q e = tag-within (tagAt s p) e
+
+  pub all-within : (p : ℕ) → Every (λ (f : Field). f .payload .start + f .payload .len ≤ length s) (messageFrom s p)
+  unfolding messageFrom
+  all-within p = every _ (fieldAt s) complete field-within (suc (length s)) p

@@ -51,3 +51,18 @@ module _ {A E : Type 0} (at at′ : ℕ → Item A E) (a : ℕ) (same : (p : ℕ
 
   pub shifted : {bound bound′ : ℕ} → Forward at′ bound′ → bound′ ≤ bound → (p : ℕ) → unrolled at e (suc bound) (a + p) ≡ unrolled at′ e (suc bound′) p
   shifted {bound} {bound′} f h p = shifted-count (suc bound) p ∙ any-count f e bound bound′ p (omega arith) (omega arith)
+
+-- ---- what holds of every item
+
+pub data Every {A E : Type 0} (P : A → Type 0) : Stream A E → Type 0 where
+  none-left : {e : E} → Every P (end e)
+  this-and : {a : A} {rest : Stream A E} → P a → Every P rest → Every P (more a rest)
+
+every-follow : {A E : Type 0} (P : A → Type 0) (i : Item A E) (from : ℕ → Stream A E) → ((a : A) (q : ℕ) → i ≡ item a q → P a) → ((q : ℕ) → Every P (from q)) → Every P (follow i from)
+every-follow P (last e) from h on = none-left
+every-follow P (item a q) from h on = this-and (h a q refl) (on q)
+
+pub every : {A E : Type 0} (P : A → Type 0) (at : ℕ → Item A E) (e : E) → ((p : ℕ) (a : A) (q : ℕ) → at p ≡ item a q → P a) → (n p : ℕ) → Every P (unrolled at e n p)
+unfolding unrolled
+every P at e h zero p = none-left
+every P at e h (suc n) p = every-follow P (at p) (unrolled at e n) (h p) (every P at e h n)

@@ -1,0 +1,109 @@
+// What a line is made of: text, bytes in hexadecimal, numbers in decimal, and refusals by their number in document 01's table.
+ghost use mathlib.Core.Path.{_≡_};
+ghost use lib.IntN.{natAbs};
+ghost use Rattle.protobuf.specs.Refusal.{number as Refusal·number};
+use libc::STDOUT_FILENO;
+use protobuf::refusal::Refusal;
+
+pub fn text(s: &[u8]) {
+    io::write_all(STDOUT_FILENO, s);
+}
+
+pub fn end_line() {
+    text(b"\n");
+}
+
+// A word or a mark, and the number behind it.
+pub fn named(name: &[u8], n: u64) {
+    text(name);
+    io::print_decimal(STDOUT_FILENO, n);
+}
+
+// The magnitude of the least i64 is no i64, so below 0 it is counted from −1.
+fn magnitude(n: i64) -> u64
+    ensures { λ r. ⌜ r ≡ natAbs n ⌝ }
+{
+    if n < 0 { (!n) as u64 + 1 } else { n as u64 }
+}
+
+// The same number in 64 bits.
+pub fn wide(n: i32) -> i64
+    ensures { λ r. ⌜ r ≡ n ⌝ }
+{
+    n as i64
+}
+
+pub fn named_signed(name: &[u8], n: i64) {
+    text(name);
+    if n < 0 {
+        text(b"-");
+    }
+    io::print_decimal(STDOUT_FILENO, magnitude(n));
+}
+
+fn byte(b: u8) {
+    text(b" ");
+    io::print_hex(STDOUT_FILENO, b as u64, 2);
+}
+
+// A space and two digits for each byte.
+pub fn bytes(s: &[u8]) {
+    let mut i = 0;
+    while i < s.len() {
+        byte(s[i]);
+        i += 1;
+    }
+}
+
+fn labelled(label: &[u8], s: &[u8]) {
+    text(label);
+    text(b":");
+    bytes(s);
+}
+
+// How a line begins whose reader starts at the first of the bytes.
+pub fn input(label: &[u8], s: &[u8]) {
+    labelled(label, s);
+    text(b" ->");
+}
+
+// How one begins where the place is a part of the case.
+pub fn input_at(label: &[u8], s: &[u8], at: usize) {
+    labelled(label, s);
+    named(b" at ", at as u64);
+    text(b" ->");
+}
+
+// How one begins where the place and the end are.
+pub fn input_between(label: &[u8], s: &[u8], at: usize, end: usize) {
+    labelled(label, s);
+    named(b" from ", at as u64);
+    named(b" up to ", end as u64);
+    text(b" ->");
+}
+
+// The number of a refusal in document 01's table.
+fn number(r: Refusal) -> u8
+    ensures { λ n. ⌜ n ≡ Refusal·number r ⌝ }
+{
+    match r {
+        Refusal::BlockTooLong => 1,
+        Refusal::VarintCut => 2,
+        Refusal::VarintLong => 3,
+        Refusal::TagValue => 4,
+        Refusal::WireType => 5,
+        Refusal::PastEnd => 6,
+        Refusal::GroupDepth => 7,
+        Refusal::Granularity => 8,
+        Refusal::SecondColumn => 9,
+        Refusal::SecondInfo => 10,
+        Refusal::SecondDense => 11,
+        Refusal::Counts => 12,
+        Refusal::NoRoom => 13,
+        Refusal::Outside => 14,
+    }
+}
+
+pub fn refused(r: Refusal) {
+    named(b" refused ", number(r) as u64);
+}

@@ -1,0 +1,5 @@
+-- One file of laws for each file of definitions.
+pub mod Outcome
+pub mod View
+pub mod Within
+pub mod Parse

@@ -1,0 +1,7 @@
+-- What wire.rs reads: the views of messages, the scan of a block with its tables, strings and groups. Definitions from osmformat.proto and
+-- document 01, section 2. Read them in this order.
+pub mod Outcome
+pub mod View
+pub mod Schema
+pub mod Handed
+pub mod Node

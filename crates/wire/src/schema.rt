@@ -1,0 +1,20 @@
+// The tags of osmformat.proto's fields that a view takes: the field number times 8 plus the wire type, as the file's text and document 01
+// name them. A column may be packed (`KEYS`) or a single value (`KEYS_ONE`).
+
+pub mod node {
+    pub const ID: u32 = 1 * 8;
+
+    pub const KEYS: u32 = 2 * 8 + 2;
+
+    pub const KEYS_ONE: u32 = 2 * 8;
+
+    pub const VALS: u32 = 3 * 8 + 2;
+
+    pub const VALS_ONE: u32 = 3 * 8;
+
+    pub const INFO: u32 = 4 * 8 + 2;
+
+    pub const LAT: u32 = 8 * 8;
+
+    pub const LON: u32 = 9 * 8;
+}
