@@ -1,0 +1,182 @@
+//! One input put to both sides. A block is scanned, checked and walked, and
+//! its groups and messages are put to the views as payloads; a payload is put
+//! to every view. Where the published Rust is not built in, it has no answers,
+//! and only the counts and the reader's own properties are left.
+
+use reader::group::{NODE, RELATION, WAY};
+use reader::{DenseNodes, Node, Record, Relation, Way};
+
+use crate::by_published;
+use crate::by_reader;
+use crate::known::GOES_ON;
+use crate::pairs::Pairs;
+use crate::question::{Ask, PAYLOAD, lookups};
+use crate::tally::Tally;
+
+/// What the inputs so far have shown.
+#[derive(Default)]
+pub struct Judge {
+    pub tally: Tally,
+    pub pairs: Pairs,
+}
+
+impl Judge {
+    /// A block: every question about blocks, then its parts as payloads.
+    pub fn block(&mut self, bytes: &[u8]) {
+        let verdict = by_reader::verdict(bytes);
+        self.tally.count("block", verdict);
+        self.scan(bytes);
+        self.verdicts(bytes, verdict);
+        if let Ok((buffer, record)) = by_reader::open(bytes) {
+            for ask in [Ask::Check, Ask::Plain, Ask::Full] {
+                self.ask(ask, bytes);
+            }
+            self.parts(&buffer, &record);
+        }
+        if verdict == 0 {
+            self.pairs.accepted(bytes, &mut self.tally);
+        }
+    }
+
+    /// A payload: every view, whatever it was made for.
+    pub fn payload(&mut self, bytes: &[u8]) {
+        self.tally.count("payload", 0);
+        for ask in PAYLOAD {
+            self.ask(ask, bytes);
+        }
+    }
+
+    /// The scan, in a buffer with room, one just full and one short of it.
+    pub fn scan(&mut self, bytes: &[u8]) {
+        let len = bytes.len() as u64;
+        let full = match by_reader::open(bytes) {
+            Ok((buffer, _)) => buffer.len() as u64,
+            Err(_) => len,
+        };
+        for room in [full + 3, full, full.saturating_sub(1)] {
+            self.ask(Ask::Scan { len, room }, bytes);
+        }
+    }
+
+    /// Asks both sides and compares.
+    pub fn ask(&mut self, ask: Ask, bytes: &[u8]) {
+        let reader = by_reader::answer(ask, bytes);
+        self.tally.count(ask.name(), number_of(ask, &reader));
+        self.compare(ask, bytes, &reader);
+    }
+
+    /// Strings and groups at the ends of a scanned block's tables; then every
+    /// group, and the messages in it.
+    fn parts(&mut self, buffer: &[u8], record: &Record) {
+        for ask in lookups(record) {
+            self.ask(ask, buffer);
+        }
+        for index in 0..record.group_count {
+            if let Ok((start, len)) = reader::group(buffer, record, index) {
+                self.group(&buffer[start..start + len]);
+            }
+        }
+    }
+
+    fn group(&mut self, group: &[u8]) {
+        for ask in [Ask::DensePass, Ask::Classify] {
+            self.ask(ask, group);
+        }
+        for field in 1..=4 {
+            self.ask(Ask::Messages { field }, group);
+        }
+        if let Ok(dense) = reader::dense_pass(group, 0, group.len()) {
+            self.dense(reader::bytes_of(group, dense));
+        }
+        for (field, ask) in [
+            (NODE, Ask::Node),
+            (WAY, Ask::Way),
+            (RELATION, Ask::Relation),
+        ] {
+            for message in messages(group, field) {
+                self.message(ask, message);
+            }
+        }
+    }
+
+    fn dense(&mut self, message: &[u8]) {
+        self.ask(Ask::Dense, message);
+        if let Ok(dense) = DenseNodes::read(message, 0, message.len()) {
+            self.ask(Ask::DenseInfo, reader::bytes_of(message, dense.info));
+        }
+    }
+
+    fn message(&mut self, ask: Ask, message: &[u8]) {
+        self.ask(ask, message);
+        let all = message.len();
+        let info = match ask {
+            Ask::Node => Node::read(message, 0, all).map(|node| node.info),
+            Ask::Way => Way::read(message, 0, all).map(|way| way.info),
+            _ => Relation::read(message, 0, all).map(|relation| relation.info),
+        };
+        if let Ok(info) = info {
+            self.ask(Ask::Info, reader::bytes_of(message, info));
+        }
+    }
+
+    /// Holds an answer of the reader against the published Rust's.
+    fn compare(&mut self, ask: Ask, bytes: &[u8], reader: &str) {
+        if let Some(published) = by_published::answer(ask, bytes)
+            && published != reader
+        {
+            self.tally.unexplained(ask, bytes, reader, &published);
+        }
+        if let Ask::Messages { field } = ask
+            && by_published::goes_on_after_its_end(bytes, field)
+        {
+            self.tally.difference(GOES_ON, bytes);
+        }
+    }
+
+    /// Whatever `validate_groups` accepts, the check accepts; and the check
+    /// equals the one composed of the published parsers.
+    fn verdicts(&mut self, bytes: &[u8], verdict: u8) {
+        let answer = verdict.to_string();
+        if let Some(composed) = by_published::composed_check(bytes)
+            && composed != answer
+        {
+            self.tally
+                .unexplained(Ask::Check, bytes, &answer, &composed);
+        }
+        match by_published::validate_groups(bytes) {
+            Some(Ok(())) if verdict == 0 => self.tally.validated += 1,
+            Some(Ok(())) => {
+                let what = "validate_groups accepts, the check does not";
+                self.tally.broken(what, bytes, &answer);
+            }
+            Some(Err(why)) if verdict == 0 => {
+                self.tally
+                    .difference(&format!("validate_groups: {why}"), bytes);
+            }
+            _ => {}
+        }
+    }
+}
+
+fn messages(group: &[u8], field: u32) -> Vec<&[u8]> {
+    let mut found = Vec::new();
+    let mut state = reader::Messages::new(field, 0, group.len());
+    while let (reader::Answer::Item(message), next) = reader::messages_step(group, state) {
+        found.push(reader::bytes_of(group, message));
+        state = next;
+    }
+    found
+}
+
+/// The number that an answer tells: that of the last step where the answer is
+/// steps, else its first word; 0 where nothing was refused.
+pub fn number_of(ask: Ask, answer: &str) -> u8 {
+    let number = match ask {
+        Ask::Classify => return 0,
+        Ask::Column | Ask::Messages { .. } | Ask::Plain | Ask::Full => {
+            answer.rsplit_once("! ").map_or("0", |(_, number)| number)
+        }
+        _ => answer.split(' ').next().unwrap_or("0"),
+    };
+    number.parse().unwrap_or(0)
+}

@@ -1,0 +1,89 @@
+//! The fixed list: questions with their answers, one a line, as
+//! vectors/README.md describes. It is written from what the published Rust
+//! answers where the simple reader agrees (`p`), and from the simple reader
+//! where the Rust has no answer (`r`); and it is checked against both again.
+
+use std::fs;
+
+use crate::by_published;
+use crate::by_reader;
+use crate::question::Ask;
+use crate::samples;
+use crate::text::{Words, parse_bytes};
+
+/// Writes the list; an error where the two sides differ.
+pub fn write(path: &str) -> Result<(), String> {
+    let commit = by_published::COMMIT.ok_or("the published Rust is not at hand")?;
+    let mut text = format!(
+        "# Answers to small questions, as vectors/README.md describes. Made by `host/run write-list`\n\
+         # from folknor/pbfhogg {commit} (p) and the simple reader in host/reader (r).\n"
+    );
+    let questions = samples::questions();
+    for (ask, bytes) in &questions {
+        text.push_str(&line(*ask, bytes)?);
+        text.push('\n');
+    }
+    fs::write(path, text).map_err(|e| format!("{path}: {e}"))?;
+    println!("{path}: {} lines written", questions.len());
+    Ok(())
+}
+
+fn line(ask: Ask, bytes: &[u8]) -> Result<String, String> {
+    let reader = by_reader::answer(ask, bytes);
+    let by = match by_published::answer(ask, bytes) {
+        Some(published) if published == reader => 'p',
+        Some(published) => return Err(format!("{ask:?}: {reader} or {published}")),
+        None => 'r',
+    };
+    let mut out = Words::new();
+    out.put(ask.name()).put(by).bytes(bytes);
+    for number in ask.numbers() {
+        out.put(number);
+    }
+    out.put('=').put(reader);
+    Ok(out.done())
+}
+
+/// Checks every line; how many there are, or the first one that differs.
+pub fn check(path: &str) -> Result<u64, String> {
+    let text = fs::read_to_string(path).map_err(|e| format!("{path}: {e}"))?;
+    let mut count = 0;
+    for (number, line) in text.lines().enumerate() {
+        if !line.starts_with('#') {
+            check_line(line).map_err(|how| format!("{path}:{}: {how}", number + 1))?;
+            count += 1;
+        }
+    }
+    Ok(count)
+}
+
+fn check_line(line: &str) -> Result<(), String> {
+    let (ask, bytes, by, expected) = parse(line).ok_or("the line is not understood")?;
+    let reader = by_reader::answer(ask, &bytes);
+    if reader != expected {
+        return Err(format!("the simple reader says {reader}"));
+    }
+    check_published(ask, &bytes, by, expected)
+}
+
+/// The letter must be right too, where the published Rust is at hand.
+fn check_published(ask: Ask, bytes: &[u8], by: &str, expected: &str) -> Result<(), String> {
+    if by_published::COMMIT.is_none() {
+        return Ok(());
+    }
+    match by_published::answer(ask, bytes) {
+        Some(answer) if answer == expected && by == "p" => Ok(()),
+        None if by == "r" => Ok(()),
+        answer => Err(format!("the published Rust says {answer:?}")),
+    }
+}
+
+/// Question, bytes, by whom, answer.
+fn parse(line: &str) -> Option<(Ask, Vec<u8>, &str, &str)> {
+    let (question, answer) = line.split_once(" = ")?;
+    let mut words = question.split(' ');
+    let (name, by) = (words.next()?, words.next()?);
+    let bytes = parse_bytes(words.next()?)?;
+    let numbers: Vec<u64> = words.map(|word| word.parse().ok()).collect::<Option<_>>()?;
+    Some((Ask::parse(name, &numbers)?, bytes, by, answer))
+}
