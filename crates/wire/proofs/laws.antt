@@ -3,3 +3,4 @@ pub mod Outcome
 pub mod View
 pub mod Within
 pub mod Parse
+pub mod Classify

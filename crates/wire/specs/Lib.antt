@@ -5,3 +5,5 @@ pub mod View
 pub mod Schema
 pub mod Handed
 pub mod Node
+pub mod Classify
+pub mod Block

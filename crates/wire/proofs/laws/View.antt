@@ -10,7 +10,7 @@ use lib.Dec.{eqb}
 use lib.ListN.{length, take, drop}
 use borrow.Author.Tests.{eqb-true, le-leb, lt-leb}
 use Rattle.protobuf.specs.declared.refusal.Refusal.{Refusal}
-use Rattle.protobuf.specs.declared.refusal.Refusal.the-variants.{Outside}
+use Rattle.protobuf.specs.declared.refusal.Refusal.the-variants.{Granularity, Outside}
 use Rattle.protobuf.specs.Read.{choose}
 use Rattle.protobuf.specs.Payload.{Payload, payloadOf}
 use Rattle.protobuf.specs.Stream.{Item, last, item, follow}
@@ -21,7 +21,7 @@ use Rattle.protobuf.proofs.laws.Message.{message-from, fields-forward}
 use Rattle.wire.specs.declared.part.Part.{Part}
 use Rattle.wire.specs.Outcome.{Outcome, kept, refused, onward, each}
 use Rattle.wire.proofs.laws.Outcome.{each-refused, each-kept}
-use Rattle.wire.specs.View.{Kind, scalar, int32, column, submessage, bytes, repeated, Row, Schema, takes, Slot, slotBy, Slots, empty, with, columnPart, infoPart, put, store, view, viewFrom, viewIn}
+use Rattle.wire.specs.View.{Kind, scalar, int32, column, submessage, bytes, repeated, Row, Schema, takes, isInt32, partBy, Slot, slotBy, Slots, empty, with, columnPart, infoPart, put, store, view, viewFrom, viewIn}
 
 -- ---- one field
 
@@ -59,6 +59,17 @@ module _ {A : Type 0} (of : Slots → A) (schema : Schema) (slots : Slots) (k ta
   pub info-refused : {n : Refusal} → Rowed schema slots k submessage tag → infoPart (slots k .part) start len ≡ refused n → each of (store schema slots (fieldBy tag value start len)) ≡ refused n
   unfolding put
   info-refused r g = slot-refused (r value start len) g
+
+  abbrev tested : Bool → Outcome A
+  tested b = each of (each (with slots k) (choose b (kept (slotBy value (partBy start len))) (refused Granularity)))
+
+  pub int32-kept : Rowed schema slots k int32 tag → isInt32 value ≡ true → each of (store schema slots (fieldBy tag value start len)) ≡ kept (of (with slots k (slotBy value (partBy start len))))
+  unfolding put each
+  int32-kept r g = ap (each of) (r value start len) ∙ ap tested g
+
+  pub int32-refused : Rowed schema slots k int32 tag → isInt32 value ≡ false → each of (store schema slots (fieldBy tag value start len)) ≡ refused Granularity
+  unfolding put each
+  int32-refused r g = ap (each of) (r value start len) ∙ ap tested g
 
 -- ---- a field that no row takes
 
@@ -165,7 +176,10 @@ module _ {A : Type 0} (of : Slots → A) (schema : Schema) (s : List ℕ) where
             inside = fields-forward s .moves p q f e .1;
           }
 
-    -- less is left behind a field
+    -- a field ends behind its place and within the bytes, and less is left behind it
+    pub further : {f : Field} {q : ℕ} → fieldAt s p ≡ item f q → (p < q) × (q ≤ length s)
+    further {f} {q} e = fields-forward s .moves p q f e
+
     pub falls : {f : Field} {q : ℕ} → fieldAt s p ≡ item f q → length s - q < length s - p
     falls {f} {q} e = omega (arith, fields-forward s .moves p q f e)
 

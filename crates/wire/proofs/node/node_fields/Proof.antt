@@ -2,7 +2,7 @@
 use borrow.Author.Needs.{needs}
 use Prim.Native.Nat.{_-_}
 use lib.ListN.{length}
-use mathlib.Core.Path.{refl, sym, _∙_}
+use mathlib.Core.Path.{refl, sym}
 use Rattle.protobuf.specs.Answers.{fieldOf}
 use Rattle.protobuf.proofs.laws.Read.{says}
 use Rattle.wire.specs.Schema.{node}

@@ -1,0 +1,105 @@
+-- `store_block`'s match is the schema of PrimitiveBlock, row by row.
+use mathlib.Core.Path.{refl, sym, subst, _∙_}
+use Rattle.wire.specs.Outcome.{each}
+use Rattle.wire.specs.View.{int32, store, put}
+use Rattle.wire.specs.Schema.{primitiveBlock}
+use Rattle.wire.specs.Block.{blockFields}
+use Rattle.wire.proofs.laws.View.{Rowed, int32-kept, int32-refused, passed-over}
+use borrow.Author.Needs.{needs}
+use Rattle.wire.proofs.primitive_block.store_block.Statement.{statement}
+use Rattle.wire.proofs.primitive_block.store_block.Tie as tie
+
+add-groups : tie.Need-add-groups
+add-groups c = search needs
+
+is-int32-requires : tie.Need-is-int32-requires
+is-int32-requires c κs = search needs
+
+is-int32-requires-2 : tie.Need-is-int32-requires-2
+is-int32-requires-2 c κs = search needs
+
+returns : tie.Need-returns
+unfolding store put each
+returns c =
+    ((λ slots e. rw (e, c .match .keys1)), search needs)
+
+returns-2 : tie.Need-returns-2
+unfolding store put each
+returns-2 c =
+    ((λ slots e. rw (e, c .before .match .keys2)), search needs)
+
+returns-3 : tie.Need-returns-3
+unfolding store
+returns-3 c =
+    let a = c .before .before .before .args in (
+      (λ slots e.
+          rw e (sym (int32-kept blockFields primitiveBlock slots 17 (a .tag) (a .value) (a .start) (a .len)
+          (subst (Rowed primitiveBlock slots 17 int32) (sym (c .before .before .match .keys3)) (λ v s l. refl))
+          (sym (c .before .is-int32 .ensures) ∙ c .if1 .taken)))),
+      search needs,
+    )
+
+returns-4 : tie.Need-returns-4
+unfolding store
+returns-4 c =
+    let a = c .before .before .before .args in (
+      (λ slots e.
+          (sym (int32-refused blockFields primitiveBlock slots 17 (a .tag) (a .value) (a .start) (a .len)
+          (subst (Rowed primitiveBlock slots 17 int32) (sym (c .before .before .match .keys3)) (λ v s l. refl))
+          (sym (c .before .is-int32 .ensures) ∙ c .if1 .left)))),
+      search needs,
+    )
+
+returns-5 : tie.Need-returns-5
+unfolding store
+returns-5 c =
+    let a = c .before .before .before .args in (
+      (λ slots e.
+          rw e (sym (int32-kept blockFields primitiveBlock slots 18 (a .tag) (a .value) (a .start) (a .len)
+          (subst (Rowed primitiveBlock slots 18 int32) (sym (c .before .before .match .keys4)) (λ v s l. refl))
+          (sym (c .before .is-int322 .ensures) ∙ c .if2 .taken)))),
+      search needs,
+    )
+
+returns-6 : tie.Need-returns-6
+unfolding store
+returns-6 c =
+    let a = c .before .before .before .args in (
+      (λ slots e.
+          (sym (int32-refused blockFields primitiveBlock slots 18 (a .tag) (a .value) (a .start) (a .len)
+          (subst (Rowed primitiveBlock slots 18 int32) (sym (c .before .before .match .keys4)) (λ v s l. refl))
+          (sym (c .before .is-int322 .ensures) ∙ c .if2 .left)))),
+      search needs,
+    )
+
+returns-7 : tie.Need-returns-7
+unfolding store put each
+returns-7 c =
+    ((λ slots e. rw (e, c .match .keys5)), search needs)
+
+returns-8 : tie.Need-returns-8
+unfolding store put each
+returns-8 c =
+    ((λ slots e. rw (e, c .match .keys6)), search needs)
+
+returns-9 : tie.Need-returns-9
+returns-9 c =
+    let a = c .before .args in
+    ((λ slots e. rw e (sym (passed-over blockFields primitiveBlock slots (a .tag) (a .value) (a .start) (a .len) (c .match .rest)))), search needs)
+
+pub store-block-spec : {M : Type 1} → statement M
+store-block-spec =
+    tie.close
+    (tie.spec
+    add-groups
+    is-int32-requires
+    is-int32-requires-2
+    returns
+    returns-2
+    returns-3
+    returns-4
+    returns-5
+    returns-6
+    returns-7
+    returns-8
+    returns-9)
