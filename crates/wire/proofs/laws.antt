@@ -4,3 +4,5 @@ pub mod View
 pub mod Within
 pub mod Parse
 pub mod Classify
+pub mod Tables
+pub mod Filling

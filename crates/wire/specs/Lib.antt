@@ -5,5 +5,8 @@ pub mod View
 pub mod Schema
 pub mod Handed
 pub mod Node
+pub mod Way
+pub mod Relation
 pub mod Classify
 pub mod Block
+pub mod Tables

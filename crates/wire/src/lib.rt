@@ -3,5 +3,8 @@ pub mod classify;
 pub mod node;
 pub mod part;
 pub mod primitive_block;
+pub mod relation;
 pub mod schema;
 pub mod slot;
+pub mod tables;
+pub mod way;

@@ -36,3 +36,57 @@ pub mod primitive_block {
 pub mod string_table {
     pub const STRINGS: u32 = 1 * 8 + 2;
 }
+
+pub mod way {
+    pub const ID: u32 = 1 * 8;
+
+    pub const KEYS: u32 = 2 * 8 + 2;
+
+    pub const KEYS_ONE: u32 = 2 * 8;
+
+    pub const VALS: u32 = 3 * 8 + 2;
+
+    pub const VALS_ONE: u32 = 3 * 8;
+
+    pub const INFO: u32 = 4 * 8 + 2;
+
+    pub const REFS: u32 = 8 * 8 + 2;
+
+    pub const REFS_ONE: u32 = 8 * 8;
+
+    pub const LAT: u32 = 9 * 8 + 2;
+
+    pub const LAT_ONE: u32 = 9 * 8;
+
+    pub const LON: u32 = 10 * 8 + 2;
+
+    pub const LON_ONE: u32 = 10 * 8;
+
+    pub const PINS: u32 = 20 * 8 + 2;
+}
+
+pub mod relation {
+    pub const ID: u32 = 1 * 8;
+
+    pub const KEYS: u32 = 2 * 8 + 2;
+
+    pub const KEYS_ONE: u32 = 2 * 8;
+
+    pub const VALS: u32 = 3 * 8 + 2;
+
+    pub const VALS_ONE: u32 = 3 * 8;
+
+    pub const INFO: u32 = 4 * 8 + 2;
+
+    pub const ROLES: u32 = 8 * 8 + 2;
+
+    pub const ROLES_ONE: u32 = 8 * 8;
+
+    pub const MEMIDS: u32 = 9 * 8 + 2;
+
+    pub const MEMIDS_ONE: u32 = 9 * 8;
+
+    pub const TYPES: u32 = 10 * 8 + 2;
+
+    pub const TYPES_ONE: u32 = 10 * 8;
+}

@@ -124,7 +124,7 @@ later-orCut : (a : ℕ) (r : Read ℕ) → later a (orCut r) ≡ orCut (ahead a 
 later-orCut a (taken v q) = refl
 later-orCut a (refused n) = refl
 
-drop-take : (p n : ℕ) (s : List ℕ) → drop p (take (p + n) s) ≡ take n (drop p s)
+pub drop-take : (p n : ℕ) (s : List ℕ) → drop p (take (p + n) s) ≡ take n (drop p s)
 drop-take zero n s = ap (λ (k : ℕ). take k s) (zero-add n)
 drop-take (suc p) n [] = ap (λ (k : ℕ). drop (suc p) (take {A = ℕ} k [])) (suc-add p n) ∙ sym (take-nil n)
 drop-take (suc p) n (x ∷ s) = ap (λ (k : ℕ). drop (suc p) (take k (x ∷ s))) (suc-add p n) ∙ drop-take p n s

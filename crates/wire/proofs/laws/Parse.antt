@@ -20,7 +20,7 @@ use Rattle.wire.proofs.laws.Within.{parts-within}
 abbrev pub lent : List ℕ → ℕ → ℕ → List ℕ
 lent s start len = take (start + len - start) (drop start s)
 
-lent-is : (s : List ℕ) (start len : ℕ) → lent s start len ≡ take len (drop start s)
+pub lent-is : (s : List ℕ) (start len : ℕ) → lent s start len ≡ take len (drop start s)
 lent-is s start len = ap (λ (n : ℕ). take n (drop start s)) (add-sub-cancel-left start len)
 
 module _ {A B : Type 0} (of : Slots → A) (typed : A → B) (schema : Schema) (s : List ℕ) (start len : ℕ) where

@@ -8,7 +8,7 @@ use mathlib.Core.Bool.{Bool, true, false}
 use native.Mathlib.Omega.{arith}
 use lib.Dec.{eqb}
 use lib.ListN.{length, take, drop}
-use borrow.Author.Tests.{eqb-true, le-leb, lt-leb}
+use borrow.Author.Tests.{eqb-true, eq-eqb, le-leb, lt-leb}
 use Rattle.protobuf.specs.declared.refusal.Refusal.{Refusal}
 use Rattle.protobuf.specs.declared.refusal.Refusal.the-variants.{Granularity, Outside}
 use Rattle.protobuf.specs.Read.{choose}
@@ -24,11 +24,6 @@ use Rattle.wire.proofs.laws.Outcome.{each-refused, each-kept}
 use Rattle.wire.specs.View.{Kind, scalar, int32, column, submessage, bytes, repeated, Row, Schema, takes, isInt32, partBy, Slot, slotBy, Slots, empty, with, columnPart, infoPart, put, store, view, viewFrom, viewIn}
 
 -- ---- one field
-
--- a tag that is one of two
-pub either : (P : ℕ → Type 0) {t a b : ℕ} → (t ≡ a) ⊎ (t ≡ b) → P a → P b → P t
-either P (inl e) x y = subst P (sym e) x
-either P (inr e) x y = subst P (sym e) y
 
 -- a tag is of the row of field k
 abbrev pub Rowed : Schema → Slots → ℕ → Kind → ℕ → Type 0
@@ -121,6 +116,43 @@ passed T (row ∷ rows) slots tag value start len h =
 pub passed-over : {A : Type 0} (of : Slots → A) (rows : Schema) (slots : Slots) (tag value start len : ℕ) → NoneOf Unit rows tag → each of (store rows slots (fieldBy tag value start len)) ≡ kept (of slots)
 unfolding each
 passed-over of rows slots tag value start len h = ap (each of) (passed Unit rows slots tag value start len h)
+
+-- ---- a field that a row takes
+
+-- the kind of field k's row, where there is one
+abbrev pub kindOf : Schema → ℕ → List Kind
+kindOf [] k = []
+kindOf (row ∷ rows) k = choose (eqb k (row .field)) (row .kind ∷ []) (kindOf rows k)
+
+-- a tag that a row takes has the field's number and a wire type of its kind
+of-row : (kind : Kind) (k tag : ℕ) → InRow kind k tag → (tag / 8 ≡ k) × (takes kind (tag % 8) ≡ true)
+of-row scalar k tag e = (omega arith, eq-eqb (tag % 8) 0 (omega arith))
+of-row int32 k tag e = (omega arith, eq-eqb (tag % 8) 0 (omega arith))
+of-row column k tag (inl e) = (omega arith, simp (eq-eqb (tag % 8) 0 (omega arith)))
+of-row column k tag (inr e) = let two : tag % 8 ≡ 2 = omega arith in (omega arith, simp two)
+of-row submessage k tag e = (omega arith, eq-eqb (tag % 8) 2 (omega arith))
+of-row bytes k tag e = (omega arith, eq-eqb (tag % 8) 2 (omega arith))
+of-row repeated k tag e = (omega arith, eq-eqb (tag % 8) 2 (omega arith))
+
+-- and that row, where the schema has it, is the one that stores the field
+pub rowed : (schema : Schema) (slots : Slots) (k : ℕ) (kind : Kind) (tag : ℕ) → kindOf schema k ≡ kind ∷ [] → InRow kind k tag → Rowed schema slots k kind tag
+unfolding store
+rowed [] slots k kind tag e h value start len = absurd (let z : _≡_ {A = ℕ} 0 1 = cc in omega arith)
+rowed (row ∷ rows) slots k kind tag e h value start len = by (eqb k (row .field)) refl e (rowed rows slots k kind tag)
+  where
+    parts : (tag / 8 ≡ k) × (takes kind (tag % 8) ≡ true)
+    parts = of-row kind k tag h
+
+    by : (b : Bool) → eqb k (row .field) ≡ b → choose b (row .kind ∷ []) (kindOf rows k) ≡ kind ∷ [] → (kindOf rows k ≡ kind ∷ [] → InRow kind k tag → Rowed rows slots k kind tag) → store (row ∷ rows) slots (fieldBy tag value start len) ≡ each (with slots k) (put kind (slots k) (payloadOf value start len))
+    by true g e rest =
+        let field : k ≡ row .field = eqb-true k (row .field) g in
+        let same : kind ≡ row .kind = cc in
+        subst (λ (r : Row). store (r ∷ rows) slots (fieldBy tag value start len) ≡ each (with slots k) (put kind (slots k) (payloadOf value start len)))
+        (λ i. record { field = field i; kind = same i })
+        (simp (eq-eqb (tag / 8) k (parts .0), parts .1))
+    by false g e rest =
+        let other : eqb (tag / 8) (row .field) ≡ false = ap (λ (n : ℕ). eqb n (row .field)) (parts .0) ∙ g in
+        simp other (rest e h value start len)
 
 -- ---- the loop
 

@@ -1,13 +1,13 @@
 -- `store_node`'s match is the schema of Node: each arm's tag is a row's, and what the slot's rule gives is what the view keeps.
 use borrow.Author.Needs.{needs}
-use mathlib.Core.Path.{refl, sym, subst}
+use mathlib.Core.Path.{refl, sym}
 use Rattle.wire.specs.Outcome.{each}
 use Rattle.wire.specs.View.{column, submessage, store, put}
 use Rattle.wire.specs.Schema.{node}
 use Rattle.wire.specs.Handed.{takenPart}
 use Rattle.wire.specs.Node.{nodeFields}
 use Rattle.protobuf.proofs.laws.Read.{says}
-use Rattle.wire.proofs.laws.View.{either, Rowed, column-kept, column-refused, info-kept, info-refused, passed-over}
+use Rattle.wire.proofs.laws.View.{rowed, column-kept, column-refused, info-kept, info-refused, passed-over}
 use Rattle.wire.proofs.node.store_node.Statement.{statement}
 use Rattle.wire.proofs.node.store_node.Tie as tie
 
@@ -43,51 +43,39 @@ unfolding store put each
 returns c slots e = rw (e, c .match .keys1)
 
 returns-2 : tie.Need-returns-2
-unfolding store
 returns-2 c slots e =
     let d = c .before .before .before in
-    let a = d .before .before .before .args in
-    (sym (column-refused nodeFields node slots 2 (a .tag) (a .value) (a .start) (a .len) (either (Rowed node slots 2 column) (d .before .before .match .keys2) (λ v s l. refl) (λ v s l. refl))
-    (rw e at (says takenPart (d .take-packed .ensures) (c .before .t .given .1)))))
+    sym (column-refused nodeFields node slots 2 _ _ _ _ (rowed node slots 2 column _ refl (d .before .before .match .keys2))
+    (rw e at (says takenPart (d .take-packed .ensures) (c .before .t .given .1))))
 
 returns-3 : tie.Need-returns-3
-unfolding store
 returns-3 c slots e =
     let d = c .before .before .before in
-    let a = d .before .before .before .args in
-    rw e (sym (column-kept nodeFields node slots 2 (a .tag) (a .value) (a .start) (a .len) (either (Rowed node slots 2 column) (d .before .before .match .keys2) (λ v s l. refl) (λ v s l. refl))
+    rw e (sym (column-kept nodeFields node slots 2 _ _ _ _ (rowed node slots 2 column _ refl (d .before .before .match .keys2))
     (rw e at (says takenPart (d .take-packed .ensures) (c .before .t2 .given .1)))))
 
 returns-4 : tie.Need-returns-4
-unfolding store
 returns-4 c slots e =
     let d = c .before .before .before in
-    let a = d .before .before .before .args in
-    (sym (column-refused nodeFields node slots 3 (a .tag) (a .value) (a .start) (a .len) (either (Rowed node slots 3 column) (d .before .before .match .keys3) (λ v s l. refl) (λ v s l. refl))
-    (rw e at (says takenPart (d .take-packed2 .ensures) (c .before .t3 .given .1)))))
+    sym (column-refused nodeFields node slots 3 _ _ _ _ (rowed node slots 3 column _ refl (d .before .before .match .keys3))
+    (rw e at (says takenPart (d .take-packed2 .ensures) (c .before .t3 .given .1))))
 
 returns-5 : tie.Need-returns-5
-unfolding store
 returns-5 c slots e =
     let d = c .before .before .before in
-    let a = d .before .before .before .args in
-    rw e (sym (column-kept nodeFields node slots 3 (a .tag) (a .value) (a .start) (a .len) (either (Rowed node slots 3 column) (d .before .before .match .keys3) (λ v s l. refl) (λ v s l. refl))
+    rw e (sym (column-kept nodeFields node slots 3 _ _ _ _ (rowed node slots 3 column _ refl (d .before .before .match .keys3))
     (rw e at (says takenPart (d .take-packed2 .ensures) (c .before .t4 .given .1)))))
 
 returns-6 : tie.Need-returns-6
-unfolding store
 returns-6 c slots e =
     let d = c .before .before .before in
-    let a = d .before .before .before .args in
-    (sym (info-refused nodeFields node slots 4 (a .tag) (a .value) (a .start) (a .len) (subst (Rowed node slots 4 submessage) (sym (d .before .before .match .keys4)) (λ v s l. refl))
-    (rw e at (says takenPart (d .take-message .ensures) (c .before .t5 .given .1)))))
+    sym (info-refused nodeFields node slots 4 _ _ _ _ (rowed node slots 4 submessage _ refl (d .before .before .match .keys4))
+    (rw e at (says takenPart (d .take-message .ensures) (c .before .t5 .given .1))))
 
 returns-7 : tie.Need-returns-7
-unfolding store
 returns-7 c slots e =
     let d = c .before .before .before in
-    let a = d .before .before .before .args in
-    rw e (sym (info-kept nodeFields node slots 4 (a .tag) (a .value) (a .start) (a .len) (subst (Rowed node slots 4 submessage) (sym (d .before .before .match .keys4)) (λ v s l. refl))
+    rw e (sym (info-kept nodeFields node slots 4 _ _ _ _ (rowed node slots 4 submessage _ refl (d .before .before .match .keys4))
     (rw e at (says takenPart (d .take-message .ensures) (c .before .t6 .given .1)))))
 
 returns-8 : tie.Need-returns-8
@@ -100,8 +88,7 @@ returns-9 c slots e = rw (e, c .match .keys6)
 
 returns-10 : tie.Need-returns-10
 returns-10 c slots e =
-    let a = c .before .args in
-    rw e (sym (passed-over nodeFields node slots (a .tag) (a .value) (a .start) (a .len) (c .match .rest)))
+    rw e (sym (passed-over nodeFields node slots _ _ _ _ (c .match .rest)))
 
 pub store-node-spec : {M : Type 1} → statement M
 store-node-spec =

@@ -1,10 +1,10 @@
 -- `store_block`'s match is the schema of PrimitiveBlock, row by row.
-use mathlib.Core.Path.{refl, sym, subst, _∙_}
+use mathlib.Core.Path.{refl, sym, _∙_}
 use Rattle.wire.specs.Outcome.{each}
 use Rattle.wire.specs.View.{int32, store, put}
 use Rattle.wire.specs.Schema.{primitiveBlock}
 use Rattle.wire.specs.Block.{blockFields}
-use Rattle.wire.proofs.laws.View.{Rowed, int32-kept, int32-refused, passed-over}
+use Rattle.wire.proofs.laws.View.{rowed, int32-kept, int32-refused, passed-over}
 use borrow.Author.Needs.{needs}
 use Rattle.wire.proofs.primitive_block.store_block.Statement.{statement}
 use Rattle.wire.proofs.primitive_block.store_block.Tie as tie
@@ -29,48 +29,36 @@ returns-2 c =
     ((λ slots e. rw (e, c .before .match .keys2)), search needs)
 
 returns-3 : tie.Need-returns-3
-unfolding store
-returns-3 c =
-    let a = c .before .before .before .args in (
-      (λ slots e.
-          rw e (sym (int32-kept blockFields primitiveBlock slots 17 (a .tag) (a .value) (a .start) (a .len)
-          (subst (Rowed primitiveBlock slots 17 int32) (sym (c .before .before .match .keys3)) (λ v s l. refl))
-          (sym (c .before .is-int32 .ensures) ∙ c .if1 .taken)))),
-      search needs,
-    )
+returns-3 c = (
+  (λ slots e. rw e (sym (int32-kept blockFields primitiveBlock slots 17 _ _ _ _
+      (rowed primitiveBlock slots 17 int32 _ refl (c .before .before .match .keys3))
+      (sym (c .before .is-int32 .ensures) ∙ c .if1 .taken)))),
+  search needs,
+)
 
 returns-4 : tie.Need-returns-4
-unfolding store
-returns-4 c =
-    let a = c .before .before .before .args in (
-      (λ slots e.
-          (sym (int32-refused blockFields primitiveBlock slots 17 (a .tag) (a .value) (a .start) (a .len)
-          (subst (Rowed primitiveBlock slots 17 int32) (sym (c .before .before .match .keys3)) (λ v s l. refl))
-          (sym (c .before .is-int32 .ensures) ∙ c .if1 .left)))),
-      search needs,
-    )
+returns-4 c = (
+  (λ slots e. sym (int32-refused blockFields primitiveBlock slots 17 _ _ _ _
+      (rowed primitiveBlock slots 17 int32 _ refl (c .before .before .match .keys3))
+      (sym (c .before .is-int32 .ensures) ∙ c .if1 .left))),
+  search needs,
+)
 
 returns-5 : tie.Need-returns-5
-unfolding store
-returns-5 c =
-    let a = c .before .before .before .args in (
-      (λ slots e.
-          rw e (sym (int32-kept blockFields primitiveBlock slots 18 (a .tag) (a .value) (a .start) (a .len)
-          (subst (Rowed primitiveBlock slots 18 int32) (sym (c .before .before .match .keys4)) (λ v s l. refl))
-          (sym (c .before .is-int322 .ensures) ∙ c .if2 .taken)))),
-      search needs,
-    )
+returns-5 c = (
+  (λ slots e. rw e (sym (int32-kept blockFields primitiveBlock slots 18 _ _ _ _
+      (rowed primitiveBlock slots 18 int32 _ refl (c .before .before .match .keys4))
+      (sym (c .before .is-int322 .ensures) ∙ c .if2 .taken)))),
+  search needs,
+)
 
 returns-6 : tie.Need-returns-6
-unfolding store
-returns-6 c =
-    let a = c .before .before .before .args in (
-      (λ slots e.
-          (sym (int32-refused blockFields primitiveBlock slots 18 (a .tag) (a .value) (a .start) (a .len)
-          (subst (Rowed primitiveBlock slots 18 int32) (sym (c .before .before .match .keys4)) (λ v s l. refl))
-          (sym (c .before .is-int322 .ensures) ∙ c .if2 .left)))),
-      search needs,
-    )
+returns-6 c = (
+  (λ slots e. sym (int32-refused blockFields primitiveBlock slots 18 _ _ _ _
+      (rowed primitiveBlock slots 18 int32 _ refl (c .before .before .match .keys4))
+      (sym (c .before .is-int322 .ensures) ∙ c .if2 .left))),
+  search needs,
+)
 
 returns-7 : tie.Need-returns-7
 unfolding store put each
@@ -84,8 +72,7 @@ returns-8 c =
 
 returns-9 : tie.Need-returns-9
 returns-9 c =
-    let a = c .before .args in
-    ((λ slots e. rw e (sym (passed-over blockFields primitiveBlock slots (a .tag) (a .value) (a .start) (a .len) (c .match .rest)))), search needs)
+    ((λ slots e. rw e (sym (passed-over blockFields primitiveBlock slots _ _ _ _ (c .match .rest)))), search needs)
 
 pub store-block-spec : {M : Type 1} → statement M
 store-block-spec =

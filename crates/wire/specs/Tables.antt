@@ -1,0 +1,45 @@
+-- The tables behind a block: an entry for each string of the chosen string table and then for each group, offset and length as 4
+-- little-endian bytes each. An offset counts from the block's start.
+use Prim.Native.Nat.{ℕ, _+_, _*_, _/_, _%_, _≤_}
+use mathlib.Core.Path.{_≡_}
+use mathlib.Core.List.{List, [], _++_}
+use mathlib.Core.Bool.{Bool, false}
+use lib.ListN.{length, take, drop}
+use lib.Dec.{eqb, leb, ltb}
+use Rattle.protobuf.specs.declared.refusal.Refusal.the-variants.{Outside}
+use Rattle.protobuf.specs.Read.{choose}
+use Rattle.protobuf.specs.Little.{little, bytes}
+use Rattle.protobuf.specs.Stream.{end, more}
+use Rattle.protobuf.specs.Message.{Field, Message, message}
+
+abbrev pub entry : ℕ → ℕ → List ℕ
+entry start len = bytes 4 start ++ bytes 4 len
+
+-- a length-delimited occurrence of field k
+abbrev pub isPart : ℕ → Field → Bool
+isPart k f = choose (eqb (f .tag .field) k) (eqb (f .tag .wire) 2) false
+
+-- the entries of the length-delimited occurrences of field k, in a message that begins at base
+unfoldable pub entries : ℕ → ℕ → Message → List ℕ
+entries base k (end e) = []
+entries base k (more f rest) =
+    choose (isPart k f) (entry (base + f .payload .start) (f .payload .len) ++ entries base k rest) (entries base k rest)
+
+-- how many there are
+unfoldable pub occurrences : ℕ → Message → ℕ
+occurrences k (end e) = 0
+occurrences k (more f rest) = choose (isPart k f) (1 + occurrences k rest) (occurrences k rest)
+
+-- the bytes with others in the place of those from `at` on
+abbrev pub written : List ℕ → ℕ → List ℕ → List ℕ
+written s at new = take at s ++ (new ++ drop (at + length new) s)
+
+-- there is room from `to` on for the entries of a message that stands before it
+pub record Room (s : List ℕ) (base len tag to : ℕ) : Type 0 where
+  pub parts : tag % 8 ≡ 2
+  pub before : base + len ≤ to
+  pub room : to + length (entries base (tag / 8) (message (take len (drop base s)))) ≤ length s
+
+-- the number in 4 little-endian bytes
+unfoldable pub number32 : List ℕ → ℕ → ℕ
+number32 s at = little (take 4 (drop at s))

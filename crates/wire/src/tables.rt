@@ -1,0 +1,65 @@
+// The tables behind a block: entries of an offset and a length, 4 little-endian bytes each.
+ghost use mathlib.Core.Path.{_≡_};
+ghost use mathlib.Core.List.{_++_};
+ghost use Prim.Native.Nat.{_+_, _/_, _≤_};
+ghost use lib.ListN.{length, take, drop};
+ghost use Rattle.protobuf.specs.Message.{message};
+ghost use Rattle.wire.specs.Tables.{entry, entries, written, Room};
+use protobuf::message::Field;
+use protobuf::message::next_field;
+
+// One entry, at the start of the tail that is lent.
+fn write_entry(tail: &mut [u8], start: usize, len: usize)
+    requires { ⌜ 8 ≤ length (now tail) ⌝ }
+    ensures { λ r. ⌜ now (tail .exit) ≡ entry start len ++ drop 8 (now (tail .entry)) ⌝ }
+{
+    let start1 = start / 256;
+    let start2 = start1 / 256;
+    let start3 = start2 / 256;
+    let len1 = len / 256;
+    let len2 = len1 / 256;
+    let len3 = len2 / 256;
+    tail[0] = (start % 256) as u8;
+    tail[1] = (start1 % 256) as u8;
+    tail[2] = (start2 % 256) as u8;
+    tail[3] = (start3 % 256) as u8;
+    tail[4] = (len % 256) as u8;
+    tail[5] = (len1 % 256) as u8;
+    tail[6] = (len2 % 256) as u8;
+    tail[7] = (len3 % 256) as u8;
+}
+
+// The entries of a message's fields of `tag` (field number times 8, plus wire type 2), from `to` on, where the message is the `len` bytes
+// from `base`, before `to`. Each is written into the tail behind those before it.
+fn write_entries(buffer: &mut [u8], base: usize, len: usize, tag: u32, to: usize)
+    requires { ⌜ Room (now buffer) base len tag to ⌝ }
+    ensures { λ r. ⌜ now (buffer .exit) ≡ written (now (buffer .entry)) to (entries base (tag / 8) (message (take len (drop base (now (buffer .entry)))))) ⌝ }
+{
+    let end = base + len;
+    let mut place = to;
+    let mut at = 0;
+    loop {
+        let f = next_field(&buffer[base..end], at);
+        match f {
+            Field::Complete => return,
+            Field::Cut(_) => return,
+            Field::Spoilt { tag: _, refusal: _ } => return,
+            Field::Read {
+                tag: t,
+                value: _,
+                start,
+                len: n,
+                next,
+            } => {
+                if t == tag {
+                    let offset = base + start;
+                    write_entry(&mut buffer[place..], offset, n);
+                    place += 8;
+                    at = next;
+                } else {
+                    at = next;
+                }
+            }
+        }
+    }
+}
