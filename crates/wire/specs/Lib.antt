@@ -10,3 +10,5 @@ pub mod Relation
 pub mod Classify
 pub mod Block
 pub mod Tables
+pub mod Group
+pub mod Lookup

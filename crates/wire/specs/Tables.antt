@@ -22,13 +22,7 @@ isPart k f = choose (eqb (f .tag .field) k) (eqb (f .tag .wire) 2) false
 -- the entries of the length-delimited occurrences of field k, in a message that begins at base
 unfoldable pub entries : ℕ → ℕ → Message → List ℕ
 entries base k (end e) = []
-entries base k (more f rest) =
-    choose (isPart k f) (entry (base + f .payload .start) (f .payload .len) ++ entries base k rest) (entries base k rest)
-
--- how many there are
-unfoldable pub occurrences : ℕ → Message → ℕ
-occurrences k (end e) = 0
-occurrences k (more f rest) = choose (isPart k f) (1 + occurrences k rest) (occurrences k rest)
+entries base k (more f rest) = choose (isPart k f) (entry (base + f .payload .start) (f .payload .len)) [] ++ entries base k rest
 
 -- the bytes with others in the place of those from `at` on
 abbrev pub written : List ℕ → ℕ → List ℕ → List ℕ

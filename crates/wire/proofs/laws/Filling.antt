@@ -93,8 +93,7 @@ module _ {s : List ℕ} {base len tag to : ℕ} {b : List ℕ} {place at : ℕ} 
         simp (eq-eqb _ _ f, eq-eqb _ _ g)
 
     abbrev chosen : Bool → List ℕ
-    chosen x =
-        choose x (entry (base + start) n ++ entries base (tag / 8) (messageFrom (part s base len) q)) (entries base (tag / 8) (messageFrom (part s base len) q))
+    chosen x = choose x (entry (base + start) n) [] ++ entries base (tag / 8) (messageFrom (part s base len) q)
 
     pub fill-skips : (t ≡ tag → ⊥) → Filling s base len tag to b place q
     unfolding entries
