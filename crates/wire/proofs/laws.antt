@@ -6,3 +6,4 @@ pub mod Parse
 pub mod Classify
 pub mod Tables
 pub mod Filling
+pub mod Info

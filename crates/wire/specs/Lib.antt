@@ -7,8 +7,12 @@ pub mod Handed
 pub mod Node
 pub mod Way
 pub mod Relation
+pub mod DenseNodes
+pub mod DenseInfo
+pub mod Info
 pub mod Classify
 pub mod Block
 pub mod Tables
 pub mod Group
 pub mod Lookup
+pub mod Scan

@@ -90,3 +90,63 @@ pub mod relation {
 
     pub const TYPES_ONE: u32 = 10 * 8;
 }
+
+pub mod dense_nodes {
+    pub const ID: u32 = 1 * 8 + 2;
+
+    pub const ID_ONE: u32 = 1 * 8;
+
+    pub const INFO: u32 = 5 * 8 + 2;
+
+    pub const LAT: u32 = 8 * 8 + 2;
+
+    pub const LAT_ONE: u32 = 8 * 8;
+
+    pub const LON: u32 = 9 * 8 + 2;
+
+    pub const LON_ONE: u32 = 9 * 8;
+
+    pub const KEYS_VALS: u32 = 10 * 8 + 2;
+
+    pub const KEYS_VALS_ONE: u32 = 10 * 8;
+}
+
+pub mod dense_info {
+    pub const VERSION: u32 = 1 * 8 + 2;
+
+    pub const VERSION_ONE: u32 = 1 * 8;
+
+    pub const TIMESTAMP: u32 = 2 * 8 + 2;
+
+    pub const TIMESTAMP_ONE: u32 = 2 * 8;
+
+    pub const CHANGESET: u32 = 3 * 8 + 2;
+
+    pub const CHANGESET_ONE: u32 = 3 * 8;
+
+    pub const UID: u32 = 4 * 8 + 2;
+
+    pub const UID_ONE: u32 = 4 * 8;
+
+    pub const USER_SID: u32 = 5 * 8 + 2;
+
+    pub const USER_SID_ONE: u32 = 5 * 8;
+
+    pub const VISIBLE: u32 = 6 * 8 + 2;
+
+    pub const VISIBLE_ONE: u32 = 6 * 8;
+}
+
+pub mod info {
+    pub const VERSION: u32 = 1 * 8;
+
+    pub const TIMESTAMP: u32 = 2 * 8;
+
+    pub const CHANGESET: u32 = 3 * 8;
+
+    pub const UID: u32 = 4 * 8;
+
+    pub const USER_SID: u32 = 5 * 8;
+
+    pub const VISIBLE: u32 = 6 * 8;
+}

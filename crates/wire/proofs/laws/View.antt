@@ -17,56 +17,17 @@ use Rattle.protobuf.specs.Stream.{Item, last, item, follow}
 use Rattle.protobuf.specs.Tag.{Tag}
 use Rattle.protobuf.specs.Message.{Field, MessageEnd, complete, cut, spoilt, fieldAt, messageFrom}
 use Rattle.protobuf.specs.Answers.{fieldBy}
+use Rattle.protobuf.proofs.laws.Read.{says}
 use Rattle.protobuf.proofs.laws.Message.{message-from, fields-forward}
 use Rattle.wire.specs.declared.part.Part.{Part}
+use Rattle.wire.specs.declared.slot.Taken.{Taken}
+use Rattle.wire.specs.declared.slot.Taken.the-variants as taken
+use Rattle.wire.specs.Handed.{takenPart}
 use Rattle.wire.specs.Outcome.{Outcome, kept, refused, onward, each}
 use Rattle.wire.proofs.laws.Outcome.{each-refused, each-kept}
 use Rattle.wire.specs.View.{Kind, scalar, int32, column, submessage, bytes, repeated, Row, Schema, takes, isInt32, partBy, Slot, slotBy, Slots, empty, with, columnPart, infoPart, put, store, view, viewFrom, viewIn}
 
--- ---- one field
-
--- a tag is of the row of field k
-abbrev pub Rowed : Schema → Slots → ℕ → Kind → ℕ → Type 0
-Rowed schema slots k kind tag =
-    (value start len : ℕ) → store schema slots (fieldBy tag value start len) ≡ each (with slots k) (put kind (slots k) (payloadOf value start len))
-
-module _ {A : Type 0} (of : Slots → A) (schema : Schema) (slots : Slots) (k tag value start len : ℕ) where
-  slot-kept : {y : Outcome Part} {p : Part} → store schema slots (fieldBy tag value start len) ≡ each (with slots k) (each (slotBy value) y) → y ≡ kept p → each of (store schema slots (fieldBy tag value start len)) ≡ kept (of (with slots k (slotBy value p)))
-  unfolding each
-  slot-kept e g = ap (each of) (e ∙ ap (λ (z : Outcome Part). each (with slots k) (each (slotBy value) z)) g)
-
-  slot-refused : {y : Outcome Part} {n : Refusal} → store schema slots (fieldBy tag value start len) ≡ each (with slots k) (each (slotBy value) y) → y ≡ refused n → each of (store schema slots (fieldBy tag value start len)) ≡ refused n
-  unfolding each
-  slot-refused e g = ap (each of) (e ∙ ap (λ (z : Outcome Part). each (with slots k) (each (slotBy value) z)) g)
-
-  pub column-kept : {p : Part} → Rowed schema slots k column tag → columnPart (slots k .part) start len ≡ kept p → each of (store schema slots (fieldBy tag value start len)) ≡ kept (of (with slots k (slotBy value p)))
-  unfolding put
-  column-kept r g = slot-kept (r value start len) g
-
-  pub column-refused : {n : Refusal} → Rowed schema slots k column tag → columnPart (slots k .part) start len ≡ refused n → each of (store schema slots (fieldBy tag value start len)) ≡ refused n
-  unfolding put
-  column-refused r g = slot-refused (r value start len) g
-
-  pub info-kept : {p : Part} → Rowed schema slots k submessage tag → infoPart (slots k .part) start len ≡ kept p → each of (store schema slots (fieldBy tag value start len)) ≡ kept (of (with slots k (slotBy value p)))
-  unfolding put
-  info-kept r g = slot-kept (r value start len) g
-
-  pub info-refused : {n : Refusal} → Rowed schema slots k submessage tag → infoPart (slots k .part) start len ≡ refused n → each of (store schema slots (fieldBy tag value start len)) ≡ refused n
-  unfolding put
-  info-refused r g = slot-refused (r value start len) g
-
-  abbrev tested : Bool → Outcome A
-  tested b = each of (each (with slots k) (choose b (kept (slotBy value (partBy start len))) (refused Granularity)))
-
-  pub int32-kept : Rowed schema slots k int32 tag → isInt32 value ≡ true → each of (store schema slots (fieldBy tag value start len)) ≡ kept (of (with slots k (slotBy value (partBy start len))))
-  unfolding put each
-  int32-kept r g = ap (each of) (r value start len) ∙ ap tested g
-
-  pub int32-refused : Rowed schema slots k int32 tag → isInt32 value ≡ false → each of (store schema slots (fieldBy tag value start len)) ≡ refused Granularity
-  unfolding put each
-  int32-refused r g = ap (each of) (r value start len) ∙ ap tested g
-
--- ---- a field that no row takes
+-- ---- a field that a row takes
 
 -- the tags that a row takes
 abbrev pub InRow : Kind → ℕ → ℕ → Type 0
@@ -76,6 +37,78 @@ InRow column k tag = (tag ≡ k * 8) ⊎ (tag ≡ k * 8 + 2)
 InRow submessage k tag = tag ≡ k * 8 + 2
 InRow bytes k tag = tag ≡ k * 8 + 2
 InRow repeated k tag = tag ≡ k * 8 + 2
+
+-- a tag is of the row of field k
+abbrev pub Rowed : Schema → Slots → ℕ → Kind → ℕ → Type 0
+Rowed schema slots k kind tag =
+    (value start len : ℕ) → store schema slots (fieldBy tag value start len) ≡ each (with slots k) (put kind (slots k) (payloadOf value start len))
+
+-- the kind of field k's row, where there is one
+abbrev pub kindOf : Schema → ℕ → List Kind
+kindOf [] k = []
+kindOf (row ∷ rows) k = choose (eqb k (row .field)) (row .kind ∷ []) (kindOf rows k)
+
+-- a tag that a row takes has the field's number and a wire type of its kind
+of-row : (kind : Kind) (k tag : ℕ) → InRow kind k tag → (tag / 8 ≡ k) × (takes kind (tag % 8) ≡ true)
+of-row scalar k tag e = (omega arith, eq-eqb (tag % 8) 0 (omega arith))
+of-row int32 k tag e = (omega arith, eq-eqb (tag % 8) 0 (omega arith))
+of-row column k tag (inl e) = (omega arith, simp (eq-eqb (tag % 8) 0 (omega arith)))
+of-row column k tag (inr e) = let two : tag % 8 ≡ 2 = omega arith in (omega arith, simp two)
+of-row submessage k tag e = (omega arith, eq-eqb (tag % 8) 2 (omega arith))
+of-row bytes k tag e = (omega arith, eq-eqb (tag % 8) 2 (omega arith))
+of-row repeated k tag e = (omega arith, eq-eqb (tag % 8) 2 (omega arith))
+
+-- and that row, where the schema has it, is the one that stores the field
+pub rowed : (schema : Schema) (slots : Slots) (k : ℕ) (kind : Kind) (tag : ℕ) → kindOf schema k ≡ kind ∷ [] → InRow kind k tag → Rowed schema slots k kind tag
+unfolding store
+rowed [] slots k kind tag e h value start len = absurd (let z : _≡_ {A = ℕ} 0 1 = cc in omega arith)
+rowed (row ∷ rows) slots k kind tag e h value start len = by (eqb k (row .field)) refl e (rowed rows slots k kind tag)
+  where
+    parts : (tag / 8 ≡ k) × (takes kind (tag % 8) ≡ true)
+    parts = of-row kind k tag h
+
+    by : (b : Bool) → eqb k (row .field) ≡ b → choose b (row .kind ∷ []) (kindOf rows k) ≡ kind ∷ [] → (kindOf rows k ≡ kind ∷ [] → InRow kind k tag → Rowed rows slots k kind tag) → store (row ∷ rows) slots (fieldBy tag value start len) ≡ each (with slots k) (put kind (slots k) (payloadOf value start len))
+    by true g e rest =
+        let field : k ≡ row .field = eqb-true k (row .field) g in
+        let same : kind ≡ row .kind = cc in
+        subst (λ (r : Row). store (r ∷ rows) slots (fieldBy tag value start len) ≡ each (with slots k) (put kind (slots k) (payloadOf value start len)))
+        (λ i. record { field = field i; kind = same i })
+        (simp (eq-eqb (tag / 8) k (parts .0), parts .1))
+    by false g e rest =
+        let other : eqb (tag / 8) (row .field) ≡ false = ap (λ (n : ℕ). eqb n (row .field)) (parts .0) ∙ g in
+        simp other (rest e h value start len)
+
+module _ {A : Type 0} (of : Slots → A) (schema : Schema) (slots : Slots) (k tag value start len : ℕ) where
+  -- of an answer r of a slot's rule, which is of the case t: storing the field does the same to the record
+  module _ {r t : Taken} where
+    slot-stored : {y : Outcome Part} → store schema slots (fieldBy tag value start len) ≡ each (with slots k) (each (slotBy value) y) → takenPart r ≡ y → r ≡ t → each (λ p. of (with slots k (slotBy value p))) (takenPart t) ≡ each of (store schema slots (fieldBy tag value start len))
+    unfolding each
+    slot-stored e g h = sym (ap (each of) (e ∙ ap (λ (z : Outcome Part). each (with slots k) (each (slotBy value) z)) (says takenPart g h)) ∙ by t)
+      where
+        by : (t : Taken) → each of (each (with slots k) (each (slotBy value) (takenPart t))) ≡ each (λ p. of (with slots k (slotBy value p))) (takenPart t)
+        by (taken.Kept p) = refl
+        by (taken.Refused n) = refl
+
+    pub column-stored : kindOf schema k ≡ column ∷ [] → InRow column k tag → takenPart r ≡ columnPart (slots k .part) start len → r ≡ t → each (λ p. of (with slots k (slotBy value p))) (takenPart t) ≡ each of (store schema slots (fieldBy tag value start len))
+    unfolding put
+    column-stored e i g h = slot-stored (rowed schema slots k column tag e i value start len) g h
+
+    pub info-stored : kindOf schema k ≡ submessage ∷ [] → InRow submessage k tag → takenPart r ≡ infoPart (slots k .part) start len → r ≡ t → each (λ p. of (with slots k (slotBy value p))) (takenPart t) ≡ each of (store schema slots (fieldBy tag value start len))
+    unfolding put
+    info-stored e i g h = slot-stored (rowed schema slots k submessage tag e i value start len) g h
+
+  abbrev tested : Bool → Outcome A
+  tested b = each of (each (with slots k) (choose b (kept (slotBy value (partBy start len))) (refused Granularity)))
+
+  pub int32-kept : kindOf schema k ≡ int32 ∷ [] → InRow int32 k tag → isInt32 value ≡ true → kept (of (with slots k (slotBy value (partBy start len)))) ≡ each of (store schema slots (fieldBy tag value start len))
+  unfolding put each
+  int32-kept e i g = sym (ap (each of) (rowed schema slots k int32 tag e i value start len) ∙ ap tested g)
+
+  pub int32-refused : kindOf schema k ≡ int32 ∷ [] → InRow int32 k tag → isInt32 value ≡ false → refused Granularity ≡ each of (store schema slots (fieldBy tag value start len))
+  unfolding put each
+  int32-refused e i g = sym (ap (each of) (rowed schema slots k int32 tag e i value start len) ∙ ap tested g)
+
+-- ---- a field that no row takes
 
 -- behind T, that the tag is of none of the rows, nested to the left as a match's last arm says it
 abbrev pub NoneOf : Type 0 → Schema → ℕ → Type 0
@@ -116,43 +149,6 @@ passed T (row ∷ rows) slots tag value start len h =
 pub passed-over : {A : Type 0} (of : Slots → A) (rows : Schema) (slots : Slots) (tag value start len : ℕ) → NoneOf Unit rows tag → each of (store rows slots (fieldBy tag value start len)) ≡ kept (of slots)
 unfolding each
 passed-over of rows slots tag value start len h = ap (each of) (passed Unit rows slots tag value start len h)
-
--- ---- a field that a row takes
-
--- the kind of field k's row, where there is one
-abbrev pub kindOf : Schema → ℕ → List Kind
-kindOf [] k = []
-kindOf (row ∷ rows) k = choose (eqb k (row .field)) (row .kind ∷ []) (kindOf rows k)
-
--- a tag that a row takes has the field's number and a wire type of its kind
-of-row : (kind : Kind) (k tag : ℕ) → InRow kind k tag → (tag / 8 ≡ k) × (takes kind (tag % 8) ≡ true)
-of-row scalar k tag e = (omega arith, eq-eqb (tag % 8) 0 (omega arith))
-of-row int32 k tag e = (omega arith, eq-eqb (tag % 8) 0 (omega arith))
-of-row column k tag (inl e) = (omega arith, simp (eq-eqb (tag % 8) 0 (omega arith)))
-of-row column k tag (inr e) = let two : tag % 8 ≡ 2 = omega arith in (omega arith, simp two)
-of-row submessage k tag e = (omega arith, eq-eqb (tag % 8) 2 (omega arith))
-of-row bytes k tag e = (omega arith, eq-eqb (tag % 8) 2 (omega arith))
-of-row repeated k tag e = (omega arith, eq-eqb (tag % 8) 2 (omega arith))
-
--- and that row, where the schema has it, is the one that stores the field
-pub rowed : (schema : Schema) (slots : Slots) (k : ℕ) (kind : Kind) (tag : ℕ) → kindOf schema k ≡ kind ∷ [] → InRow kind k tag → Rowed schema slots k kind tag
-unfolding store
-rowed [] slots k kind tag e h value start len = absurd (let z : _≡_ {A = ℕ} 0 1 = cc in omega arith)
-rowed (row ∷ rows) slots k kind tag e h value start len = by (eqb k (row .field)) refl e (rowed rows slots k kind tag)
-  where
-    parts : (tag / 8 ≡ k) × (takes kind (tag % 8) ≡ true)
-    parts = of-row kind k tag h
-
-    by : (b : Bool) → eqb k (row .field) ≡ b → choose b (row .kind ∷ []) (kindOf rows k) ≡ kind ∷ [] → (kindOf rows k ≡ kind ∷ [] → InRow kind k tag → Rowed rows slots k kind tag) → store (row ∷ rows) slots (fieldBy tag value start len) ≡ each (with slots k) (put kind (slots k) (payloadOf value start len))
-    by true g e rest =
-        let field : k ≡ row .field = eqb-true k (row .field) g in
-        let same : kind ≡ row .kind = cc in
-        subst (λ (r : Row). store (r ∷ rows) slots (fieldBy tag value start len) ≡ each (with slots k) (put kind (slots k) (payloadOf value start len)))
-        (λ i. record { field = field i; kind = same i })
-        (simp (eq-eqb (tag / 8) k (parts .0), parts .1))
-    by false g e rest =
-        let other : eqb (tag / 8) (row .field) ≡ false = ap (λ (n : ℕ). eqb n (row .field)) (parts .0) ∙ g in
-        simp other (rest e h value start len)
 
 -- ---- the loop
 

@@ -2,12 +2,10 @@
 use borrow.Author.Needs.{needs}
 use mathlib.Core.Path.{refl, sym}
 use Rattle.wire.specs.Outcome.{each}
-use Rattle.wire.specs.View.{column, submessage, store, put}
+use Rattle.wire.specs.View.{store, put}
 use Rattle.wire.specs.Schema.{node}
-use Rattle.wire.specs.Handed.{takenPart}
 use Rattle.wire.specs.Node.{nodeFields}
-use Rattle.protobuf.proofs.laws.Read.{says}
-use Rattle.wire.proofs.laws.View.{rowed, column-kept, column-refused, info-kept, info-refused, passed-over}
+use Rattle.wire.proofs.laws.View.{column-stored, info-stored, passed-over}
 use Rattle.wire.proofs.node.store_node.Statement.{statement}
 use Rattle.wire.proofs.node.store_node.Tie as tie
 
@@ -43,40 +41,40 @@ unfolding store put each
 returns c slots e = rw (e, c .match .keys1)
 
 returns-2 : tie.Need-returns-2
+unfolding each
 returns-2 c slots e =
     let d = c .before .before .before in
-    sym (column-refused nodeFields node slots 2 _ _ _ _ (rowed node slots 2 column _ refl (d .before .before .match .keys2))
-    (rw e at (says takenPart (d .take-packed .ensures) (c .before .t .given .1))))
+    column-stored nodeFields node slots 2 _ _ _ _ refl (d .before .before .match .keys2) (rw e at (d .take-packed .ensures)) (c .before .t .given .1)
 
 returns-3 : tie.Need-returns-3
+unfolding each
 returns-3 c slots e =
     let d = c .before .before .before in
-    rw e (sym (column-kept nodeFields node slots 2 _ _ _ _ (rowed node slots 2 column _ refl (d .before .before .match .keys2))
-    (rw e at (says takenPart (d .take-packed .ensures) (c .before .t2 .given .1)))))
+    rw e (column-stored nodeFields node slots 2 _ _ _ _ refl (d .before .before .match .keys2) (rw e at (d .take-packed .ensures)) (c .before .t2 .given .1))
 
 returns-4 : tie.Need-returns-4
+unfolding each
 returns-4 c slots e =
     let d = c .before .before .before in
-    sym (column-refused nodeFields node slots 3 _ _ _ _ (rowed node slots 3 column _ refl (d .before .before .match .keys3))
-    (rw e at (says takenPart (d .take-packed2 .ensures) (c .before .t3 .given .1))))
+    column-stored nodeFields node slots 3 _ _ _ _ refl (d .before .before .match .keys3) (rw e at (d .take-packed2 .ensures)) (c .before .t3 .given .1)
 
 returns-5 : tie.Need-returns-5
+unfolding each
 returns-5 c slots e =
     let d = c .before .before .before in
-    rw e (sym (column-kept nodeFields node slots 3 _ _ _ _ (rowed node slots 3 column _ refl (d .before .before .match .keys3))
-    (rw e at (says takenPart (d .take-packed2 .ensures) (c .before .t4 .given .1)))))
+    rw e (column-stored nodeFields node slots 3 _ _ _ _ refl (d .before .before .match .keys3) (rw e at (d .take-packed2 .ensures)) (c .before .t4 .given .1))
 
 returns-6 : tie.Need-returns-6
+unfolding each
 returns-6 c slots e =
     let d = c .before .before .before in
-    sym (info-refused nodeFields node slots 4 _ _ _ _ (rowed node slots 4 submessage _ refl (d .before .before .match .keys4))
-    (rw e at (says takenPart (d .take-message .ensures) (c .before .t5 .given .1))))
+    info-stored nodeFields node slots 4 _ _ _ _ refl (d .before .before .match .keys4) (rw e at (d .take-message .ensures)) (c .before .t5 .given .1)
 
 returns-7 : tie.Need-returns-7
+unfolding each
 returns-7 c slots e =
     let d = c .before .before .before in
-    rw e (sym (info-kept nodeFields node slots 4 _ _ _ _ (rowed node slots 4 submessage _ refl (d .before .before .match .keys4))
-    (rw e at (says takenPart (d .take-message .ensures) (c .before .t6 .given .1)))))
+    rw e (info-stored nodeFields node slots 4 _ _ _ _ refl (d .before .before .match .keys4) (rw e at (d .take-message .ensures)) (c .before .t6 .given .1))
 
 returns-8 : tie.Need-returns-8
 unfolding store put each
@@ -87,6 +85,7 @@ unfolding store put each
 returns-9 c slots e = rw (e, c .match .keys6)
 
 returns-10 : tie.Need-returns-10
+unfolding each
 returns-10 c slots e =
     rw e (sym (passed-over nodeFields node slots _ _ _ _ (c .match .rest)))
 

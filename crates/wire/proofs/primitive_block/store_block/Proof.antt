@@ -1,10 +1,10 @@
 -- `store_block`'s match is the schema of PrimitiveBlock, row by row.
 use mathlib.Core.Path.{refl, sym, _∙_}
 use Rattle.wire.specs.Outcome.{each}
-use Rattle.wire.specs.View.{int32, store, put}
+use Rattle.wire.specs.View.{store, put}
 use Rattle.wire.specs.Schema.{primitiveBlock}
 use Rattle.wire.specs.Block.{blockFields}
-use Rattle.wire.proofs.laws.View.{rowed, int32-kept, int32-refused, passed-over}
+use Rattle.wire.proofs.laws.View.{int32-kept, int32-refused, passed-over}
 use borrow.Author.Needs.{needs}
 use Rattle.wire.proofs.primitive_block.store_block.Statement.{statement}
 use Rattle.wire.proofs.primitive_block.store_block.Tie as tie
@@ -30,33 +30,25 @@ returns-2 c =
 
 returns-3 : tie.Need-returns-3
 returns-3 c = (
-  (λ slots e. rw e (sym (int32-kept blockFields primitiveBlock slots 17 _ _ _ _
-      (rowed primitiveBlock slots 17 int32 _ refl (c .before .before .match .keys3))
-      (sym (c .before .is-int32 .ensures) ∙ c .if1 .taken)))),
+  (λ slots e. rw e (int32-kept blockFields primitiveBlock slots 17 _ _ _ _ refl (c .before .before .match .keys3) (sym (c .before .is-int32 .ensures) ∙ c .if1 .taken))),
   search needs,
 )
 
 returns-4 : tie.Need-returns-4
 returns-4 c = (
-  (λ slots e. sym (int32-refused blockFields primitiveBlock slots 17 _ _ _ _
-      (rowed primitiveBlock slots 17 int32 _ refl (c .before .before .match .keys3))
-      (sym (c .before .is-int32 .ensures) ∙ c .if1 .left))),
+  (λ slots e. int32-refused blockFields primitiveBlock slots 17 _ _ _ _ refl (c .before .before .match .keys3) (sym (c .before .is-int32 .ensures) ∙ c .if1 .left)),
   search needs,
 )
 
 returns-5 : tie.Need-returns-5
 returns-5 c = (
-  (λ slots e. rw e (sym (int32-kept blockFields primitiveBlock slots 18 _ _ _ _
-      (rowed primitiveBlock slots 18 int32 _ refl (c .before .before .match .keys4))
-      (sym (c .before .is-int322 .ensures) ∙ c .if2 .taken)))),
+  (λ slots e. rw e (int32-kept blockFields primitiveBlock slots 18 _ _ _ _ refl (c .before .before .match .keys4) (sym (c .before .is-int322 .ensures) ∙ c .if2 .taken))),
   search needs,
 )
 
 returns-6 : tie.Need-returns-6
 returns-6 c = (
-  (λ slots e. sym (int32-refused blockFields primitiveBlock slots 18 _ _ _ _
-      (rowed primitiveBlock slots 18 int32 _ refl (c .before .before .match .keys4))
-      (sym (c .before .is-int322 .ensures) ∙ c .if2 .left))),
+  (λ slots e. int32-refused blockFields primitiveBlock slots 18 _ _ _ _ refl (c .before .before .match .keys4) (sym (c .before .is-int322 .ensures) ∙ c .if2 .left)),
   search needs,
 )
 

@@ -2,12 +2,10 @@
 use borrow.Author.Needs.{needs}
 use mathlib.Core.Path.{refl, sym}
 use Rattle.wire.specs.Outcome.{each}
-use Rattle.wire.specs.View.{column, submessage, store, put}
+use Rattle.wire.specs.View.{store, put}
 use Rattle.wire.specs.Schema.{way}
-use Rattle.wire.specs.Handed.{takenPart}
 use Rattle.wire.specs.Way.{wayFields}
-use Rattle.protobuf.proofs.laws.Read.{says}
-use Rattle.wire.proofs.laws.View.{rowed, column-kept, column-refused, info-kept, info-refused, passed-over}
+use Rattle.wire.proofs.laws.View.{column-stored, info-stored, passed-over}
 use Rattle.wire.proofs.way.store_way.Statement.{statement}
 use Rattle.wire.proofs.way.store_way.Tie as tie
 
@@ -70,64 +68,76 @@ unfolding store put each
 returns c slots e = rw (e, c .match .keys1)
 
 returns-2 : tie.Need-returns-2
+unfolding each
 returns-2 c slots e =
     let d = c .before .before .before in
-    sym (column-refused wayFields way slots 2 _ _ _ _ (rowed way slots 2 column _ refl (d .before .before .match .keys2)) (rw e at (says takenPart (d .take-packed .ensures) (c .before .t .given .1))))
+    column-stored wayFields way slots 2 _ _ _ _ refl (d .before .before .match .keys2) (rw e at (d .take-packed .ensures)) (c .before .t .given .1)
 
 returns-3 : tie.Need-returns-3
+unfolding each
 returns-3 c slots e =
     let d = c .before .before .before in
-    rw e (sym (column-kept wayFields way slots 2 _ _ _ _ (rowed way slots 2 column _ refl (d .before .before .match .keys2)) (rw e at (says takenPart (d .take-packed .ensures) (c .before .t2 .given .1)))))
+    rw e (column-stored wayFields way slots 2 _ _ _ _ refl (d .before .before .match .keys2) (rw e at (d .take-packed .ensures)) (c .before .t2 .given .1))
 
 returns-4 : tie.Need-returns-4
+unfolding each
 returns-4 c slots e =
     let d = c .before .before .before in
-    sym (column-refused wayFields way slots 3 _ _ _ _ (rowed way slots 3 column _ refl (d .before .before .match .keys3)) (rw e at (says takenPart (d .take-packed2 .ensures) (c .before .t3 .given .1))))
+    column-stored wayFields way slots 3 _ _ _ _ refl (d .before .before .match .keys3) (rw e at (d .take-packed2 .ensures)) (c .before .t3 .given .1)
 
 returns-5 : tie.Need-returns-5
+unfolding each
 returns-5 c slots e =
     let d = c .before .before .before in
-    rw e (sym (column-kept wayFields way slots 3 _ _ _ _ (rowed way slots 3 column _ refl (d .before .before .match .keys3)) (rw e at (says takenPart (d .take-packed2 .ensures) (c .before .t4 .given .1)))))
+    rw e (column-stored wayFields way slots 3 _ _ _ _ refl (d .before .before .match .keys3) (rw e at (d .take-packed2 .ensures)) (c .before .t4 .given .1))
 
 returns-6 : tie.Need-returns-6
+unfolding each
 returns-6 c slots e =
     let d = c .before .before .before in
-    sym (info-refused wayFields way slots 4 _ _ _ _ (rowed way slots 4 submessage _ refl (d .before .before .match .keys4)) (rw e at (says takenPart (d .take-message .ensures) (c .before .t5 .given .1))))
+    info-stored wayFields way slots 4 _ _ _ _ refl (d .before .before .match .keys4) (rw e at (d .take-message .ensures)) (c .before .t5 .given .1)
 
 returns-7 : tie.Need-returns-7
+unfolding each
 returns-7 c slots e =
     let d = c .before .before .before in
-    rw e (sym (info-kept wayFields way slots 4 _ _ _ _ (rowed way slots 4 submessage _ refl (d .before .before .match .keys4)) (rw e at (says takenPart (d .take-message .ensures) (c .before .t6 .given .1)))))
+    rw e (info-stored wayFields way slots 4 _ _ _ _ refl (d .before .before .match .keys4) (rw e at (d .take-message .ensures)) (c .before .t6 .given .1))
 
 returns-8 : tie.Need-returns-8
+unfolding each
 returns-8 c slots e =
     let d = c .before .before .before in
-    sym (column-refused wayFields way slots 8 _ _ _ _ (rowed way slots 8 column _ refl (d .before .before .match .keys5)) (rw e at (says takenPart (d .take-packed3 .ensures) (c .before .t7 .given .1))))
+    column-stored wayFields way slots 8 _ _ _ _ refl (d .before .before .match .keys5) (rw e at (d .take-packed3 .ensures)) (c .before .t7 .given .1)
 
 returns-9 : tie.Need-returns-9
+unfolding each
 returns-9 c slots e =
     let d = c .before .before .before in
-    rw e (sym (column-kept wayFields way slots 8 _ _ _ _ (rowed way slots 8 column _ refl (d .before .before .match .keys5)) (rw e at (says takenPart (d .take-packed3 .ensures) (c .before .t8 .given .1)))))
+    rw e (column-stored wayFields way slots 8 _ _ _ _ refl (d .before .before .match .keys5) (rw e at (d .take-packed3 .ensures)) (c .before .t8 .given .1))
 
 returns-10 : tie.Need-returns-10
+unfolding each
 returns-10 c slots e =
     let d = c .before .before .before in
-    sym (column-refused wayFields way slots 9 _ _ _ _ (rowed way slots 9 column _ refl (d .before .before .match .keys6)) (rw e at (says takenPart (d .take-packed4 .ensures) (c .before .t9 .given .1))))
+    column-stored wayFields way slots 9 _ _ _ _ refl (d .before .before .match .keys6) (rw e at (d .take-packed4 .ensures)) (c .before .t9 .given .1)
 
 returns-11 : tie.Need-returns-11
+unfolding each
 returns-11 c slots e =
     let d = c .before .before .before in
-    rw e (sym (column-kept wayFields way slots 9 _ _ _ _ (rowed way slots 9 column _ refl (d .before .before .match .keys6)) (rw e at (says takenPart (d .take-packed4 .ensures) (c .before .t10 .given .1)))))
+    rw e (column-stored wayFields way slots 9 _ _ _ _ refl (d .before .before .match .keys6) (rw e at (d .take-packed4 .ensures)) (c .before .t10 .given .1))
 
 returns-12 : tie.Need-returns-12
+unfolding each
 returns-12 c slots e =
     let d = c .before .before .before in
-    sym (column-refused wayFields way slots 10 _ _ _ _ (rowed way slots 10 column _ refl (d .before .before .match .keys7)) (rw e at (says takenPart (d .take-packed5 .ensures) (c .before .t11 .given .1))))
+    column-stored wayFields way slots 10 _ _ _ _ refl (d .before .before .match .keys7) (rw e at (d .take-packed5 .ensures)) (c .before .t11 .given .1)
 
 returns-13 : tie.Need-returns-13
+unfolding each
 returns-13 c slots e =
     let d = c .before .before .before in
-    rw e (sym (column-kept wayFields way slots 10 _ _ _ _ (rowed way slots 10 column _ refl (d .before .before .match .keys7)) (rw e at (says takenPart (d .take-packed5 .ensures) (c .before .t12 .given .1)))))
+    rw e (column-stored wayFields way slots 10 _ _ _ _ refl (d .before .before .match .keys7) (rw e at (d .take-packed5 .ensures)) (c .before .t12 .given .1))
 
 returns-14 : tie.Need-returns-14
 unfolding store put each
