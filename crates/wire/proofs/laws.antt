@@ -7,3 +7,5 @@ pub mod Classify
 pub mod Tables
 pub mod Filling
 pub mod Info
+pub mod Counting
+pub mod Scan

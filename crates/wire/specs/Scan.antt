@@ -1,6 +1,7 @@
 -- The scan of a block at the start of a buffer (document 01, section 2): 14, then 1, then the block's own fields, then the chosen string
 -- table, then 13. It gives the record and the tables, which go right behind the block; a refusal writes nothing.
-use Prim.Native.Nat.{ℕ, _+_, _*_}
+use Prim.Native.Nat.{ℕ, _+_, _*_, _≤_}
+use mathlib.Core.Path.{_≡_}
 use mathlib.Core.List.{List, _++_}
 use lib.ListN.{length, take, drop}
 use lib.Dec.{leb}
@@ -12,8 +13,8 @@ use Rattle.wire.specs.declared.record.WireBlock.{WireBlock}
 use Rattle.wire.specs.declared.primitive_block.BlockFields.{BlockFields}
 use Rattle.wire.specs.declared.scan.Count.{Count}
 use Rattle.wire.specs.declared.scan.Count.the-variants as count
-use Rattle.wire.specs.declared.scan.Scan.{Scan}
-use Rattle.wire.specs.declared.scan.Scan.the-variants as scan
+use Rattle.wire.specs.declared.scan.BlockScan.{BlockScan}
+use Rattle.wire.specs.declared.scan.BlockScan.the-variants as scan
 use Rattle.wire.specs.Outcome.{Outcome, kept, refused, onward}
 use Rattle.wire.specs.View.{Slots, view}
 use Rattle.wire.specs.Schema.{primitiveBlock, stringTable}
@@ -50,26 +51,46 @@ recordBy block top strings =
     }
 
 pub record Scanned : Type 0 where
-  pub meta : WireBlock
+  pub block : WireBlock
   pub table : List ℕ
 
--- what stands behind the string table's reading: room for the tables, in a buffer of n bytes
-abbrev pub withRoom : ℕ → ℕ → Scanned → Outcome Scanned
-withRoom n block x = choose (leb (block + length (x .table)) n) (kept x) (refused NoRoom)
+abbrev pub meta : Scanned → WireBlock
+meta x = x .block
+
+-- the last stage, in a buffer of n bytes: room for the tables
+unfoldable pub tablesStage : ℕ → ℕ → List ℕ → BlockFields → ℕ → Outcome Scanned
+tablesStage n block bytes top strings =
+    choose (leb (block + length (tables bytes top)) n)
+    (kept (record { block = recordBy block top strings; table = tables bytes top }))
+    (refused NoRoom)
+
+-- the stage before: the chosen string table is read whole
+unfoldable pub stringsStage : ℕ → ℕ → List ℕ → BlockFields → Outcome Scanned
+stringsStage n block bytes top =
+    onward (view stringTable (stringBytes bytes top)) λ slots. tablesStage n block bytes top (stringCount slots)
+
+-- the first: the block's own fields
+unfoldable pub fieldsStage : ℕ → ℕ → List ℕ → Outcome Scanned
+fieldsStage n block bytes = onward (view primitiveBlock bytes) λ slots. stringsStage n block bytes (blockFields slots)
 
 unfoldable pub scanned : List ℕ → ℕ → Outcome Scanned
 scanned s block =
     choose (leb block (length s))
-    (choose (leb block limit)
-    (onward (view primitiveBlock (take block s)) λ slots.
-    onward (view stringTable (stringBytes (take block s) (blockFields slots))) λ strings.
-    withRoom (length s) block
-    (record {
-      meta = recordBy block (blockFields slots) (stringCount strings);
-      table = tables (take block s) (blockFields slots);
-    }))
-    (refused BlockTooLong))
+    (choose (leb block limit) (fieldsStage (length s) block (take block s)) (refused BlockTooLong))
     (refused Outside)
+
+-- what the first two stages have read, for the code of the next
+pub record FieldsRead (s : List ℕ) (block : ℕ) (top : BlockFields) : Type 0 where
+  pub inside : block ≤ length s
+  pub slots : Slots
+  pub is : top ≡ blockFields slots
+  pub so : view primitiveBlock (take block s) ≡ kept slots
+
+pub record StringsRead (s : List ℕ) (block : ℕ) (top : BlockFields) (strings : ℕ) : Type 0 where
+  pub before : FieldsRead s block top
+  pub slots : Slots
+  pub is : strings ≡ stringCount slots
+  pub so : view stringTable (stringBytes (take block s) top) ≡ kept slots
 
 -- the buffer after a scan
 abbrev pub afterScan : List ℕ → ℕ → Outcome Scanned → List ℕ
@@ -80,6 +101,6 @@ abbrev pub counted : Count → Outcome ℕ
 counted (count.Counted n) = kept n
 counted (count.Refused r) = refused r
 
-abbrev pub scannedRecord : Scan → Outcome WireBlock
+abbrev pub scannedRecord : BlockScan → Outcome WireBlock
 scannedRecord (scan.Scanned r) = kept r
 scannedRecord (scan.Refused r) = refused r

@@ -3,13 +3,34 @@ ghost use mathlib.Core.Path.{_≡_};
 ghost use Rattle.wire.specs.Outcome.{each};
 ghost use Rattle.wire.specs.View.{view};
 ghost use Rattle.wire.specs.Schema.{stringTable};
-ghost use Rattle.wire.specs.Scan.{scanned, stringCount, afterScan, counted, scannedRecord};
+ghost use Prim.Native.Nat.{_+_, _*_, _^_, _≤_, _<_};
+ghost use lib.Dec.{leb};
+ghost use lib.ListN.{length, take};
+ghost use Rattle.wire.specs.Scan.{
+  scanned,
+  stringCount,
+  afterScan,
+  counted,
+  scannedRecord,
+  recordBy,
+  tablesStage,
+  stringsStage,
+  FieldsRead,
+  StringsRead,
+  meta,
+};
+use crate::primitive_block::BlockFields;
+use crate::primitive_block::BlockStored;
+use crate::primitive_block::scan_block_fields;
 use crate::record::WireBlock;
 use crate::schema::primitive_block::GROUP;
 use crate::schema::string_table::STRINGS;
+use crate::tables::write_entries;
 use protobuf::message::Field;
 use protobuf::message::next_field;
 use protobuf::refusal::Refusal;
+use protobuf::signed::int32;
+use protobuf::signed::int64;
 
 // The longest block that is scanned.
 pub const LIMIT: usize = 33554432;
@@ -19,7 +40,7 @@ pub enum Count {
     Refused(Refusal),
 }
 
-pub enum Scan {
+pub enum BlockScan {
     Scanned(WireBlock),
     Refused(Refusal),
 }
@@ -51,5 +72,90 @@ fn count_strings(s: &[u8]) -> Count
                 }
             }
         }
+    }
+}
+
+// Whether `n` bytes have room behind a block for both tables.
+fn has_room(n: usize, block: usize, strings: usize, groups: usize) -> bool
+    requires { ⌜ block ≤ n ⌝ }
+    ensures { λ r. ⌜ r ≡ leb (block + 8 * (strings + groups)) n ⌝ }
+{
+    let room = (n - block) / 8;
+    if room < strings {
+        false
+    } else {
+        groups <= room - strings
+    }
+}
+
+// The record of a block, from what its fields and its string table gave.
+fn record_of(block: usize, top: BlockFields, strings: usize) -> WireBlock
+    requires { ⌜ block + 8 * strings < 2 ^ 64 ⌝ }
+    ensures { λ r. ⌜ r ≡ recordBy block top strings ⌝ }
+{
+    WireBlock {
+        block,
+        strings,
+        stringtable: block,
+        groups: top.groups,
+        grouptable: block + 8 * strings,
+        granularity: int32(top.granularity),
+        dategranularity: int32(top.dategranularity),
+        latoffset: int64(top.latoffset),
+        lonoffset: int64(top.lonoffset),
+    }
+}
+
+// The last stage: 13 where there is no room for the tables, else they are written.
+fn scan_tables(buffer: &mut [u8], block: usize, top: BlockFields, strings: usize) -> BlockScan
+    requires { ⌜ StringsRead (now buffer) block top strings ⌝ }
+    ensures answer { λ r. ⌜ scannedRecord r ≡ each meta (tablesStage (length (now (buffer .entry))) block (take block (now (buffer .entry))) top strings) ⌝ }
+    ensures after { λ r. ⌜ now (buffer .exit) ≡ afterScan (now (buffer .entry)) block (tablesStage (length (now (buffer .entry))) block (take block (now (buffer .entry))) top strings) ⌝ }
+{
+    let groups = top.groups;
+    if has_room(buffer.len(), block, strings, groups) {
+        let part = top.strings;
+        let place = block + 8 * strings;
+        write_entries(buffer, part.start, part.len, STRINGS, block);
+        write_entries(buffer, 0, block, GROUP, place);
+        BlockScan::Scanned(record_of(block, top, strings))
+    } else {
+        BlockScan::Refused(Refusal::NoRoom)
+    }
+}
+
+// The stage before: the chosen string table is read whole.
+fn scan_strings(buffer: &mut [u8], block: usize, top: BlockFields) -> BlockScan
+    requires { ⌜ FieldsRead (now buffer) block top ⌝ }
+    ensures answer { λ r. ⌜ scannedRecord r ≡ each meta (stringsStage (length (now (buffer .entry))) block (take block (now (buffer .entry))) top) ⌝ }
+    ensures after { λ r. ⌜ now (buffer .exit) ≡ afterScan (now (buffer .entry)) block (stringsStage (length (now (buffer .entry))) block (take block (now (buffer .entry))) top) ⌝ }
+{
+    let part = top.strings;
+    let start = part.start;
+    let end = start + part.len;
+    let c = count_strings(&buffer[start..end]);
+    match c {
+        Count::Refused(n) => BlockScan::Refused(n),
+        Count::Counted(n) => scan_tables(buffer, block, top, n),
+    }
+}
+
+// The block in the first `block` bytes: 14 where the length passes the buffer, 1 where it is above the limit, then the refusals of all
+// its fields (8 among them), of its last string table, and 13 where the tables have no room behind it. The tables are written right
+// behind the block, and no other byte changes; a refusal writes nothing.
+pub fn scan(buffer: &mut [u8], block: usize) -> BlockScan
+    ensures answer { λ r. ⌜ scannedRecord r ≡ each meta (scanned (now (buffer .entry)) block) ⌝ }
+    ensures after { λ r. ⌜ now (buffer .exit) ≡ afterScan (now (buffer .entry)) block (scanned (now (buffer .entry)) block) ⌝ }
+{
+    if buffer.len() < block {
+        return BlockScan::Refused(Refusal::Outside);
+    }
+    if LIMIT < block {
+        return BlockScan::Refused(Refusal::BlockTooLong);
+    }
+    let top = scan_block_fields(&buffer[..block]);
+    match top {
+        BlockStored::Refused(n) => BlockScan::Refused(n),
+        BlockStored::Kept(v) => scan_strings(buffer, block, v),
     }
 }

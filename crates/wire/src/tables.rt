@@ -31,7 +31,7 @@ fn write_entry(tail: &mut [u8], start: usize, len: usize)
 
 // The entries of a message's fields of `tag` (field number times 8, plus wire type 2), from `to` on, where the message is the `len` bytes
 // from `base`, before `to`. Each is written into the tail behind those before it.
-fn write_entries(buffer: &mut [u8], base: usize, len: usize, tag: u32, to: usize)
+pub(crate) fn write_entries(buffer: &mut [u8], base: usize, len: usize, tag: u32, to: usize)
     requires { ⌜ Room (now buffer) base len tag to ⌝ }
     ensures { λ r. ⌜ now (buffer .exit) ≡ written (now (buffer .entry)) to (entries base (tag / 8) (message (take len (drop base (now (buffer .entry)))))) ⌝ }
 {

@@ -6,7 +6,6 @@ use mathlib.Core.Bool.{Bool, true, false}
 use native.Mathlib.Omega.{arith}
 use lib.Dec.{eqb}
 use lib.ListN.{length}
-use Rattle.protobuf.specs.declared.refusal.Refusal.{Refusal}
 use Rattle.protobuf.specs.Read.{choose}
 use Rattle.protobuf.specs.Payload.{Payload}
 use Rattle.protobuf.specs.Stream.{end, more}
@@ -16,25 +15,8 @@ use Rattle.protobuf.proofs.laws.Stream.{Every, none-left, this-and}
 use Rattle.protobuf.proofs.laws.Message.{all-within}
 use Rattle.wire.specs.declared.part.Part.{Part}
 use Rattle.wire.specs.Outcome.{Outcome, kept, refused, onward, each}
+use Rattle.wire.proofs.laws.Outcome.{If, so, not, if-kept, if-each, if-onward}
 use Rattle.wire.specs.View.{Kind, scalar, int32, column, submessage, bytes, repeated, isInt32, Row, Schema, takes, Slot, slotBy, Slots, empty, with, columnPart, infoPart, put, store, view, viewFrom}
-
--- an outcome that, if kept, is so
-data If {A : Type 0} (P : A → Type 0) : Outcome A → Type 0 where
-  so : {a : A} → P a → If P (kept a)
-  not : {n : Refusal} → If P (refused n)
-
-if-kept : {A : Type 0} {P : A → Type 0} {a : A} → If P (kept a) → P a
-if-kept (so h) = h
-
-if-each : {A B : Type 0} {P : A → Type 0} {Q : B → Type 0} (f : A → B) {x : Outcome A} → If P x → ((a : A) → P a → Q (f a)) → If Q (each f x)
-unfolding each
-if-each f (so {a = a} h) g = so (g a h)
-if-each f not g = not
-
-if-onward : {A B : Type 0} {P : A → Type 0} {Q : B → Type 0} (f : A → Outcome B) {x : Outcome A} → If P x → ((a : A) → P a → If Q (f a)) → If Q (onward x f)
-unfolding onward
-if-onward f (so {a = a} h) g = g a h
-if-onward f not g = not
 
 module _ (n : ℕ) where
   abbrev Within : Part → Type 0

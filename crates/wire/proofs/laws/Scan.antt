@@ -1,0 +1,199 @@
+-- Laws of the scan's stages. The tables have eight bytes for each string and group; the string table stands within the block; and writing
+-- the strings' entries and then the groups' behind them writes both.
+use Prim.Native.Nat.{ℕ, _+_, _-_, _*_, _≤_, _<_}
+use mathlib.Core.Path.{_≡_, refl, sym, ap, _∙_, subst}
+use mathlib.Core.Bool.{Bool, true, false}
+use mathlib.Core.List.{List, [], _∷_, _++_, append-assoc}
+use native.Mathlib.Omega.{arith}
+use lib.ListN.{length, take, drop, length-append, length-take, length-drop}
+use lib.Seq.{length-take-le, take-take, drop-drop}
+use lib.Dec.{leb}
+use borrow.Author.Tests.{le-leb, lt-leb, leb-true, leb-false, eqb-false}
+use Rattle.protobuf.specs.declared.refusal.Refusal.{Refusal}
+use Rattle.protobuf.specs.declared.refusal.Refusal.the-variants.{BlockTooLong, NoRoom, Outside}
+use Rattle.protobuf.specs.Message.{message}
+use Rattle.protobuf.proofs.laws.Part.{drop-take}
+use Rattle.wire.specs.declared.part.Part.{Part}
+use Rattle.wire.specs.declared.primitive_block.BlockFields.{BlockFields}
+use Rattle.wire.specs.Outcome.{Outcome, kept, refused, onward, each}
+use Rattle.wire.specs.View.{Slots, view}
+use Rattle.wire.specs.Schema.{primitiveBlock, stringTable}
+use Rattle.wire.specs.Block.{blockFields}
+use Rattle.wire.specs.Tables.{entries, written, Room}
+use Rattle.wire.specs.Scan.{limit, stringBytes, stringCount, tables, recordBy, Scanned, tablesStage, stringsStage, fieldsStage, scanned, FieldsRead, StringsRead}
+use Rattle.wire.proofs.laws.Outcome.{each-kept, each-refused}
+use Rattle.wire.proofs.laws.Parse.{lent, lent-is}
+use Rattle.wire.proofs.laws.Within.{parts-within}
+use Rattle.wire.proofs.laws.Counting.{Counts, here, there, none, past, table-length}
+use Rattle.wire.proofs.laws.Tables.{written-length, written-before, written-more}
+
+-- a part of the first bytes is a part of them all
+pub part-of-front : (s : List ℕ) (block start len : ℕ) → start + len ≤ block → take len (drop start (take block s)) ≡ take len (drop start s)
+part-of-front s block start len h =
+    let cut : start + (block - start) ≡ block = omega arith in
+    ap (take len) (subst (λ (n : ℕ). drop start (take n s) ≡ take (block - start) (drop start s)) cut (drop-take start (block - start) s))
+    ∙ take-take len (block - start) (drop start s) (omega arith)
+
+-- more, written behind what was written
+written-twice : (s : List ℕ) (at : ℕ) (new more : List ℕ) → at + length new + length more ≤ length s → written (written s at new) (at + length new) more ≡ written s at (new ++ more)
+written-twice s at new more h =
+    ap (λ (l : List ℕ). take (at + length new) (written s at new) ++ (more ++ l)) (sym (drop-drop (length more) (at + length new) (written s at new)))
+    ∙ written-more s at new (omega arith) more h
+
+string-count : Counts 1 stringTable
+string-count = here none
+
+group-count : Counts 2 primitiveBlock
+group-count =
+    there (eqb-false 1 2 refl)
+    (here (past (eqb-false 17 2 refl) (past (eqb-false 18 2 refl) (past (eqb-false 19 2 refl) (past (eqb-false 20 2 refl) none)))))
+
+module _ {s : List ℕ} {block : ℕ} {top : BlockFields} (r : FieldsRead s block top) where
+  block-length : length (take block s) ≡ block
+  block-length = length-take-le block s (r .inside)
+
+  pub strings-within : top .strings .start + top .strings .len ≤ block
+  strings-within =
+      let same : top .strings ≡ r .slots 1 .part = ap (λ (v : BlockFields). v .strings) (r .is) in
+      omega (arith, parts-within primitiveBlock (take block s) (r .so) 1, block-length, ap (λ (p : Part). p .start) same, ap (λ (p : Part). p .len) same)
+
+  pub string-bytes : stringBytes (take block s) top ≡ take (top .strings .len) (drop (top .strings .start) s)
+  string-bytes = part-of-front s block (top .strings .start) (top .strings .len) strings-within
+
+  groups-length : length (entries 0 2 (message (take block s))) ≡ 8 * top .groups
+  groups-length = table-length 2 group-count 0 (take block s) (r .so) ∙ ap (λ (v : BlockFields). 8 * v .groups) (sym (r .is))
+
+module _ {s : List ℕ} {block : ℕ} {top : BlockFields} {strings : ℕ} (r : StringsRead s block top strings) where
+  abbrev stringEntries : List ℕ
+  stringEntries = entries (top .strings .start) 1 (message (stringBytes (take block s) top))
+
+  abbrev groupEntries : List ℕ
+  groupEntries = entries 0 2 (message (take block s))
+
+  strings-length : length stringEntries ≡ 8 * strings
+  strings-length = table-length 1 string-count (top .strings .start) (stringBytes (take block s) top) (r .so) ∙ ap (λ (n : ℕ). 8 * n) (sym (r .is))
+
+  total : length (tables (take block s) top) ≡ 8 * (strings + top .groups)
+  total =
+      length-append stringEntries groupEntries
+      ∙ omega (arith, strings-length, groups-length (r .before))
+
+  pub no-room : length s < block + 8 * (strings + top .groups) → tablesStage (length s) block (take block s) top strings ≡ refused NoRoom
+  unfolding tablesStage
+  no-room h = simp (lt-leb (block + length (tables (take block s) top)) (length s) (omega (arith, total)))
+
+  module _ (h : block + 8 * (strings + top .groups) ≤ length s) where
+    pub with-room : tablesStage (length s) block (take block s) top strings ≡ kept (record { block = recordBy block top strings; table = tables (take block s) top })
+    unfolding tablesStage
+    with-room = simp (le-leb (block + length (tables (take block s) top)) (length s) (omega (arith, total)))
+
+    own-strings : entries (top .strings .start) 1 (message (take (top .strings .len) (drop (top .strings .start) s))) ≡ stringEntries
+    own-strings = ap (λ (l : List ℕ). entries (top .strings .start) 1 (message l)) (sym (string-bytes (r .before)))
+
+    pub strings-room : Room s (top .strings .start) (top .strings .len) 10 block
+    strings-room = record {
+      parts = refl;
+      before = strings-within (r .before);
+      room = omega (arith, ap length own-strings, strings-length);
+    }
+
+    -- after the strings' entries
+    module _ (b : List ℕ) (e : b ≡ written s block (entries (top .strings .start) 1 (message (take (top .strings .len) (drop (top .strings .start) s))))) where
+      is : b ≡ written s block stringEntries
+      is = e ∙ ap (written s block) own-strings
+
+      room-first : block + length stringEntries ≤ length s
+      room-first = omega (arith, strings-length)
+
+      same-block : take block b ≡ take block s
+      same-block = ap (take block) is ∙ written-before s block stringEntries room-first 0 block (omega arith)
+
+      same-length : length b ≡ length s
+      same-length = ap length is ∙ written-length s block stringEntries room-first
+
+      own-groups : entries 0 2 (message (take block b)) ≡ groupEntries
+      own-groups = ap (λ (l : List ℕ). entries 0 2 (message l)) same-block
+
+      pub groups-room : Room b 0 block 18 (block + 8 * strings)
+      groups-room = record {
+        parts = refl;
+        before = omega arith;
+        room = omega (arith, ap length own-groups, groups-length (r .before), same-length);
+      }
+
+      pub both-written : (after : List ℕ) → after ≡ written b (block + 8 * strings) (entries 0 2 (message (take block b))) → after ≡ written s block (tables (take block s) top)
+      both-written after g =
+          g
+          ∙ ap (λ (l : List ℕ). written b (block + 8 * strings) l) own-groups
+          ∙ ap (λ (n : ℕ). written b (block + n) groupEntries) (sym strings-length)
+          ∙ ap (λ (l : List ℕ). written l (block + length stringEntries) groupEntries) is
+          ∙ written-twice s block stringEntries groupEntries (omega (arith, strings-length, groups-length (r .before)))
+
+-- two tests that hold together
+pub same-test : (a b c d : ℕ) → (a ≤ b → c ≤ d) → (c ≤ d → a ≤ b) → leb a b ≡ leb c d
+same-test a b c d to back = by (leb a b) (leb c d) refl refl
+  where
+    by : (x y : Bool) → leb a b ≡ x → leb c d ≡ y → x ≡ y
+    by true true e g = refl
+    by true false e g = absurd (omega (arith, to (leb-true a b e), leb-false c d g))
+    by false true e g = absurd (omega (arith, back (leb-true c d g), leb-false a b e))
+    by false false e g = refl
+
+-- ---- the stages before
+
+module _ {s : List ℕ} {block : ℕ} {top : BlockFields} (r : FieldsRead s block top) where
+  lent-strings : lent s (top .strings .start) (top .strings .len) ≡ stringBytes (take block s) top
+  lent-strings = lent-is s (top .strings .start) (top .strings .len) ∙ sym (string-bytes r)
+
+  pub strings-refused : {n : Refusal} → each stringCount (view stringTable (lent s (top .strings .start) (top .strings .len))) ≡ refused n → stringsStage (length s) block (take block s) top ≡ refused n
+  unfolding stringsStage onward
+  strings-refused e =
+      ap (λ (x : Outcome Slots). onward x λ slots. tablesStage (length s) block (take block s) top (stringCount slots))
+      (ap (view stringTable) (sym lent-strings) ∙ each-refused stringCount (view stringTable (lent s (top .strings .start) (top .strings .len))) e)
+
+  module _ {n : ℕ} (e : each stringCount (view stringTable (lent s (top .strings .start) (top .strings .len))) ≡ kept n) where
+    pub strings-read : StringsRead s block top n
+    strings-read =
+        let k = each-kept stringCount (view stringTable (lent s (top .strings .start) (top .strings .len))) e in
+        record { before = r; slots = k .0; is = sym (k .2); so = ap (view stringTable) (sym lent-strings) ∙ k .1 }
+
+    pub strings-counted : stringsStage (length s) block (take block s) top ≡ tablesStage (length s) block (take block s) top n
+    unfolding stringsStage onward
+    strings-counted =
+        ap (λ (x : Outcome Slots). onward x λ slots. tablesStage (length s) block (take block s) top (stringCount slots)) (strings-read .so)
+        ∙ ap (tablesStage (length s) block (take block s) top) (sym (strings-read .is))
+
+module _ (s : List ℕ) (block : ℕ) where
+  pub scan-outside : length s < block → scanned s block ≡ refused Outside
+  unfolding scanned
+  scan-outside h = simp (lt-leb _ _ h)
+
+  module _ (h : block ≤ length s) where
+    pub scan-too-long : limit < block → scanned s block ≡ refused BlockTooLong
+    unfolding scanned
+    scan-too-long g = simp (le-leb _ _ h, lt-leb block limit g)
+
+    module _ (g : block ≤ limit) where
+      fields : scanned s block ≡ fieldsStage (length s) block (take block s)
+      unfolding scanned
+      fields = simp (le-leb _ _ h, le-leb block limit g)
+
+      pub fields-refused : {n : Refusal} → each blockFields (view primitiveBlock (take block s)) ≡ refused n → scanned s block ≡ refused n
+      unfolding fieldsStage onward
+      fields-refused e =
+          fields
+          ∙ ap (λ (x : Outcome Slots). onward x λ slots. stringsStage (length s) block (take block s) (blockFields slots))
+          (each-refused blockFields (view primitiveBlock (take block s)) e)
+
+      module _ {top : BlockFields} (e : each blockFields (view primitiveBlock (take block s)) ≡ kept top) where
+        pub fields-read : FieldsRead s block top
+        fields-read =
+            let k = each-kept blockFields (view primitiveBlock (take block s)) e in
+            record { inside = h; slots = k .0; is = sym (k .2); so = k .1 }
+
+        pub fields-kept : scanned s block ≡ stringsStage (length s) block (take block s) top
+        unfolding fieldsStage onward
+        fields-kept =
+            fields
+            ∙ ap (λ (x : Outcome Slots). onward x λ slots. stringsStage (length s) block (take block s) (blockFields slots)) (fields-read .so)
+            ∙ ap (stringsStage (length s) block (take block s)) (sym (fields-read .is))
