@@ -14,3 +14,4 @@ pub mod Signed
 pub mod Machine
 pub mod Little
 pub mod Within
+pub mod Test

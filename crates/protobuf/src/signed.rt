@@ -45,8 +45,8 @@ pub fn zigzag_i32(n: u64) -> i32
     if low % 2 == 0 { half } else { !half }
 }
 
-// The 64 bits of x.
-fn bits_i64(x: i64) -> u64
+// The 64 bits of x in two's complement.
+pub fn bits_i64(x: i64) -> u64
     ensures { λ r. ⌜ r ≡ residue 64 x ⌝ }
 {
     if x < 0 { !((!x) as u64) } else { x as u64 }

@@ -167,7 +167,7 @@ fn differences() {
     );
 }
 
-pub fn run() {
+pub(crate) fn run() {
     whole();
     cut();
     differences();

@@ -68,7 +68,7 @@ fn positions() {
     position(-9223372036854775808, 1, -1);
 }
 
-pub fn run() {
+pub(crate) fn run() {
     sums();
     products();
     positions();

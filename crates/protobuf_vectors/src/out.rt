@@ -5,16 +5,16 @@ ghost use Rattle.protobuf.specs.Refusal.{number as Refusal·number};
 use libc::STDOUT_FILENO;
 use protobuf::refusal::Refusal;
 
-pub fn text(s: &[u8]) {
+pub(crate) fn text(s: &[u8]) {
     io::write_all(STDOUT_FILENO, s);
 }
 
-pub fn end_line() {
+pub(crate) fn end_line() {
     text(b"\n");
 }
 
 // A word or a mark, and the number behind it.
-pub fn named(name: &[u8], n: u64) {
+pub(crate) fn named(name: &[u8], n: u64) {
     text(name);
     io::print_decimal(STDOUT_FILENO, n);
 }
@@ -27,13 +27,13 @@ fn magnitude(n: i64) -> u64
 }
 
 // The same number in 64 bits.
-pub fn wide(n: i32) -> i64
+pub(crate) fn wide(n: i32) -> i64
     ensures { λ r. ⌜ r ≡ n ⌝ }
 {
     n as i64
 }
 
-pub fn named_signed(name: &[u8], n: i64) {
+pub(crate) fn named_signed(name: &[u8], n: i64) {
     text(name);
     if n < 0 {
         text(b"-");
@@ -47,7 +47,7 @@ fn byte(b: u8) {
 }
 
 // A space and two digits for each byte.
-pub fn bytes(s: &[u8]) {
+pub(crate) fn bytes(s: &[u8]) {
     let mut i = 0;
     while i < s.len() {
         byte(s[i]);
@@ -62,20 +62,20 @@ fn labelled(label: &[u8], s: &[u8]) {
 }
 
 // How a line begins whose reader starts at the first of the bytes.
-pub fn input(label: &[u8], s: &[u8]) {
+pub(crate) fn input(label: &[u8], s: &[u8]) {
     labelled(label, s);
     text(b" ->");
 }
 
 // How one begins where the place is a part of the case.
-pub fn input_at(label: &[u8], s: &[u8], at: usize) {
+pub(crate) fn input_at(label: &[u8], s: &[u8], at: usize) {
     labelled(label, s);
     named(b" at ", at as u64);
     text(b" ->");
 }
 
 // How one begins where the place and the end are.
-pub fn input_between(label: &[u8], s: &[u8], at: usize, end: usize) {
+pub(crate) fn input_between(label: &[u8], s: &[u8], at: usize, end: usize) {
     labelled(label, s);
     named(b" from ", at as u64);
     named(b" up to ", end as u64);
@@ -104,6 +104,6 @@ fn number(r: Refusal) -> u8
     }
 }
 
-pub fn refused(r: Refusal) {
+pub(crate) fn refused(r: Refusal) {
     named(b" refused ", number(r) as u64);
 }

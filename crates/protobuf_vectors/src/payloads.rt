@@ -189,7 +189,7 @@ fn types() {
     typed(b"payload of type 6 behind the end", b"", 1, 6);
 }
 
-pub fn run() {
+pub(crate) fn run() {
     messages();
     raw_varints();
     lengths();

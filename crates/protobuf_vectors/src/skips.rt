@@ -110,7 +110,7 @@ fn deep_groups() {
     );
 }
 
-pub fn run() {
+pub(crate) fn run() {
     singles();
     groups();
     spoilt_groups();

@@ -59,7 +59,7 @@ fn done() {
     tag(b"tag at the end", b"\x08\x96\x01", 3);
 }
 
-pub fn run() {
+pub(crate) fn run() {
     taken();
     not_taken();
     done();

@@ -161,7 +161,7 @@ fn zigzags() {
     );
 }
 
-pub fn run() {
+pub(crate) fn run() {
     read();
     long();
     short();

@@ -9,3 +9,5 @@ pub mod Filling
 pub mod Info
 pub mod Counting
 pub mod Scan
+pub mod Group
+pub mod Lookup

@@ -150,3 +150,7 @@ pub mod info {
 
     pub const VISIBLE: u32 = 6 * 8;
 }
+
+pub mod primitive_group {
+    pub const DENSE: u32 = 2 * 8 + 2;
+}

@@ -12,7 +12,7 @@ pub enum Taken {
 }
 
 // An occurrence of a column: an empty one is ignored, and 9 where there was one that is not.
-pub fn take_packed(old: Part, start: usize, len: usize) -> Taken
+pub(crate) fn take_packed(old: Part, start: usize, len: usize) -> Taken
     ensures { λ r. ⌜ takenPart r ≡ columnPart old start len ⌝ }
 {
     if len == 0 {
@@ -29,7 +29,7 @@ pub fn take_packed(old: Part, start: usize, len: usize) -> Taken
 }
 
 // An occurrence of an Info: it replaces an empty one; behind one that is not, an empty one is ignored, and another is 10.
-pub fn take_message(old: Part, start: usize, len: usize) -> Taken
+pub(crate) fn take_message(old: Part, start: usize, len: usize) -> Taken
     ensures { λ r. ⌜ takenPart r ≡ infoPart old start len ⌝ }
 {
     if old.len == 0 {
@@ -46,7 +46,7 @@ pub fn take_message(old: Part, start: usize, len: usize) -> Taken
 }
 
 // A part of a message that begins at `base`, as a part of the bytes around it.
-pub fn part_at(base: usize, part: Part) -> Part
+pub(crate) fn part_at(base: usize, part: Part) -> Part
     requires { ⌜ base + part .start < 2 ^ 64 ⌝ }
     ensures { λ r. ⌜ r ≡ moved base part ⌝ }
 {

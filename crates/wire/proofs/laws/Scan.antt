@@ -6,7 +6,7 @@ use mathlib.Core.Bool.{Bool, true, false}
 use mathlib.Core.List.{List, [], _∷_, _++_, append-assoc}
 use native.Mathlib.Omega.{arith}
 use lib.ListN.{length, take, drop, length-append, length-take, length-drop}
-use lib.Seq.{length-take-le, take-take, drop-drop}
+use lib.Seq.{length-take-le, take-take}
 use lib.Dec.{leb}
 use borrow.Author.Tests.{le-leb, lt-leb, leb-true, leb-false, eqb-false}
 use Rattle.protobuf.specs.declared.refusal.Refusal.{Refusal}
@@ -25,7 +25,7 @@ use Rattle.wire.proofs.laws.Outcome.{each-kept, each-refused}
 use Rattle.wire.proofs.laws.Parse.{lent, lent-is}
 use Rattle.wire.proofs.laws.Within.{parts-within}
 use Rattle.wire.proofs.laws.Counting.{Counts, here, there, none, past, table-length}
-use Rattle.wire.proofs.laws.Tables.{written-length, written-before, written-more}
+use Rattle.wire.proofs.laws.Tables.{written-length, written-before, written-twice}
 
 -- a part of the first bytes is a part of them all
 pub part-of-front : (s : List ℕ) (block start len : ℕ) → start + len ≤ block → take len (drop start (take block s)) ≡ take len (drop start s)
@@ -33,12 +33,6 @@ part-of-front s block start len h =
     let cut : start + (block - start) ≡ block = omega arith in
     ap (take len) (subst (λ (n : ℕ). drop start (take n s) ≡ take (block - start) (drop start s)) cut (drop-take start (block - start) s))
     ∙ take-take len (block - start) (drop start s) (omega arith)
-
--- more, written behind what was written
-written-twice : (s : List ℕ) (at : ℕ) (new more : List ℕ) → at + length new + length more ≤ length s → written (written s at new) (at + length new) more ≡ written s at (new ++ more)
-written-twice s at new more h =
-    ap (λ (l : List ℕ). take (at + length new) (written s at new) ++ (more ++ l)) (sym (drop-drop (length more) (at + length new) (written s at new)))
-    ∙ written-more s at new (omega arith) more h
 
 string-count : Counts 1 stringTable
 string-count = here none
@@ -128,16 +122,6 @@ module _ {s : List ℕ} {block : ℕ} {top : BlockFields} {strings : ℕ} (r : S
           ∙ ap (λ (n : ℕ). written b (block + n) groupEntries) (sym strings-length)
           ∙ ap (λ (l : List ℕ). written l (block + length stringEntries) groupEntries) is
           ∙ written-twice s block stringEntries groupEntries (omega (arith, strings-length, groups-length (r .before)))
-
--- two tests that hold together
-pub same-test : (a b c d : ℕ) → (a ≤ b → c ≤ d) → (c ≤ d → a ≤ b) → leb a b ≡ leb c d
-same-test a b c d to back = by (leb a b) (leb c d) refl refl
-  where
-    by : (x y : Bool) → leb a b ≡ x → leb c d ≡ y → x ≡ y
-    by true true e g = refl
-    by true false e g = absurd (omega (arith, to (leb-true a b e), leb-false c d g))
-    by false true e g = absurd (omega (arith, back (leb-true c d g), leb-false a b e))
-    by false false e g = refl
 
 -- ---- the stages before
 

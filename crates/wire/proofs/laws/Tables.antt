@@ -53,3 +53,9 @@ tail-back b place k new ys e =
     ap (λ (l : List ℕ). take place b ++ (ys ++ l)) (drop-of-length-le (drop place b) rest)
     ∙ ap (λ (l : List ℕ). take place b ++ l) (append-nil ys ∙ e)
     ∙ ap (λ (l : List ℕ). take place b ++ (new ++ drop k l)) (take-all (length b - place) (drop place b) rest)
+
+-- more, written behind what was written
+pub written-twice : (s : List ℕ) (at : ℕ) (new more : List ℕ) → at + length new + length more ≤ length s → written (written s at new) (at + length new) more ≡ written s at (new ++ more)
+written-twice s at new more h =
+    ap (λ (l : List ℕ). take (at + length new) (written s at new) ++ (more ++ l)) (sym (drop-drop (length more) (at + length new) (written s at new)))
+    ∙ written-more s at new (omega arith) more h

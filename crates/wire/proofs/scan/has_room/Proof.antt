@@ -3,7 +3,7 @@ use Prim.Native.Nat.{_+_, _-_, _*_, _/_}
 use native.Mathlib.Omega.{arith}
 use mathlib.Core.Path.{sym}
 use borrow.Author.Tests.{lt-leb}
-use Rattle.wire.proofs.laws.Scan.{same-test}
+use Rattle.protobuf.proofs.laws.Test.{same-test}
 use borrow.Author.Needs.{needs}
 use Rattle.wire.proofs.scan.has_room.Statement.{statement}
 use Rattle.wire.proofs.scan.has_room.Tie as tie

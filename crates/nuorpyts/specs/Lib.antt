@@ -1,0 +1,3 @@
+-- How numbers, records and answers pass through C.
+pub mod Words
+pub mod Codes
