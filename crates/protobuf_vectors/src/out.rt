@@ -1,8 +1,8 @@
 // What a line is made of: text, bytes in hexadecimal, numbers in decimal, and refusals by their number in document 01's table.
 ghost use mathlib.Core.Path.{_≡_};
 ghost use lib.IntN.{natAbs};
-ghost use Rattle.protobuf.specs.Refusal.{number as Refusal·number};
 use libc::STDOUT_FILENO;
+use protobuf::refusal::number;
 use protobuf::refusal::Refusal;
 
 pub(crate) fn text(s: &[u8]) {
@@ -80,28 +80,6 @@ pub(crate) fn input_between(label: &[u8], s: &[u8], at: usize, end: usize) {
     named(b" from ", at as u64);
     named(b" up to ", end as u64);
     text(b" ->");
-}
-
-// The number of a refusal in document 01's table.
-fn number(r: Refusal) -> u8
-    ensures { λ n. ⌜ n ≡ Refusal·number r ⌝ }
-{
-    match r {
-        Refusal::BlockTooLong => 1,
-        Refusal::VarintCut => 2,
-        Refusal::VarintLong => 3,
-        Refusal::TagValue => 4,
-        Refusal::WireType => 5,
-        Refusal::PastEnd => 6,
-        Refusal::GroupDepth => 7,
-        Refusal::Granularity => 8,
-        Refusal::SecondColumn => 9,
-        Refusal::SecondInfo => 10,
-        Refusal::SecondDense => 11,
-        Refusal::Counts => 12,
-        Refusal::NoRoom => 13,
-        Refusal::Outside => 14,
-    }
 }
 
 pub(crate) fn refused(r: Refusal) {
