@@ -22,6 +22,9 @@ use Rattle.wire.specs.Info.{infoFields, infoOf}
 use Rattle.wire.specs.Group.{denseFrom}
 use Rattle.wire.specs.Tables.{entries}
 use Rattle.wire.specs.Scan.{Scanned, tablesStage, stringsStage, fieldsStage, scanned}
+use Rattle.block.specs.Columns.{partsOf, messagesOf, columnIn, countOf}
+use Rattle.block.specs.Tags.{Pair, takePairs, densePairs}
+use Rattle.block.specs.Check.{passed, all, checked}
 use Rattle.protobuf.specs.Little.{bytes}
 use Rattle.protobuf.specs.Column.{ColumnEnd, ended, Column, column, valueAt, columnFrom, sint64s, sums, sumsFrom}
 
@@ -78,8 +81,12 @@ abbrev pub table2 : List ℕ
 table2 =
     0x04 ∷ 0 ∷ 0 ∷ 0 ∷ 0x00 ∷ 0 ∷ 0 ∷ 0 ∷ 0x06 ∷ 0 ∷ 0 ∷ 0 ∷ 0x01 ∷ 0 ∷ 0 ∷ 0 ∷ 0x09 ∷ 0 ∷ 0 ∷ 0 ∷ 0x00 ∷ 0 ∷ 0 ∷ 0 ∷ []
 
+abbrev pub pair : ℕ → ℕ → Pair
+pair k v = record { key = k; value = v }
+
 pub record Starred : Type 0 where
   pub example1 : buffered [] 0 ≡ kept (record { block = plainRecord 0 0 0; table = [] })
+  pub example1-accepted : checked [] ≡ passed
   pub example2 : buffered block2 24 ≡ kept (record { block = plainRecord 9 2 1; table = table2 })
   pub example2-no-room : numberIn (buffered block2 23) ≡ 13
   pub example3 : each (λ x. x .block) (buffered (block2 ++ 0x0A ∷ 0x00 ∷ []) 24) ≡ kept (plainRecord 11 0 1)
@@ -104,12 +111,15 @@ pub record Starred : Type 0 where
   pub example9-single : references (0x08 ∷ 0x07 ∷ 0x40 ∷ 0x02 ∷ []) ≡ kept (pos 1 ∷ [])
   pub example10 : numberIn (denseFrom noPart (message (0x12 ∷ 0x00 ∷ 0x12 ∷ 0x00 ∷ []))) ≡ 11
   pub example11 : each (λ slots. infoOf (infoFields slots) .version .present) (view info (0x08 ∷ 0xFF ∷ 0xFF ∷ 0xFF ∷ 0xFF ∷ 0x0F ∷ [])) ≡ kept false
+  pub example12 : densePairs 2 (column (0x01 ∷ 0x02 ∷ 0x00 ∷ 0x03 ∷ 0x04 ∷ [])) ≡ kept ((pair 1 2 ∷ []) ∷ (pair 3 4 ∷ []) ∷ [])
+  pub example12-no-value : numberIn (densePairs 2 (column (0x00 ∷ 0x01 ∷ []))) ≡ 2
 
 pub starred : Starred
-unfolding numberIn references onward each columnPart infoPart put store viewFrom view denseFrom entries tablesStage stringsStage fieldsStage scanned bytes numberOf fields values andThen digits varint legal tag tagAt rawVarint fixed counted lengthDelimited valueBy fieldIn fieldsOf groupBy payload unrolled mapped fieldAt messageFrom signed twos unzigzag zigzag residue wrap valueAt columnFrom sumsFrom
+unfolding partsOf messagesOf columnIn countOf takePairs densePairs all checked numberIn references onward each columnPart infoPart put store viewFrom view denseFrom entries tablesStage stringsStage fieldsStage scanned bytes numberOf fields values andThen digits varint legal tag tagAt rawVarint fixed counted lengthDelimited valueBy fieldIn fieldsOf groupBy payload unrolled mapped fieldAt messageFrom signed twos unzigzag zigzag residue wrap valueAt columnFrom sumsFrom
 starred =
     record {
       example1 = refl;
+      example1-accepted = refl;
       example2 = refl;
       example2-no-room = refl;
       example3 = refl;
@@ -134,4 +144,6 @@ starred =
       example9-single = refl;
       example10 = refl;
       example11 = refl;
+      example12 = refl;
+      example12-no-value = refl;
     }

@@ -15,3 +15,4 @@ pub mod Machine
 pub mod Little
 pub mod Within
 pub mod Test
+pub mod Sums

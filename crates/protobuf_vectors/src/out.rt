@@ -2,8 +2,8 @@
 ghost use mathlib.Core.Path.{_≡_};
 ghost use lib.IntN.{natAbs};
 use libc::STDOUT_FILENO;
-use protobuf::refusal::number;
 use protobuf::refusal::Refusal;
+use protobuf::refusal::number;
 
 pub(crate) fn text(s: &[u8]) {
     io::write_all(STDOUT_FILENO, s);
