@@ -1,3 +1,5 @@
 -- How numbers, records and answers pass through C.
 pub mod Words
 pub mod Codes
+pub mod Block
+pub mod Views

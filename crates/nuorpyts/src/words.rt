@@ -1,11 +1,11 @@
 // Numbers as 8 little-endian bytes.
 ghost use mathlib.Core.Path.{_≡_};
-ghost use mathlib.Core.List.{_++_};
+ghost use mathlib.Core.List.{_++_, [], _∷_};
 ghost use Prim.Native.Nat.{_+_, _^_, _≤_, _<_};
 ghost use lib.ListN.{length, take, drop};
 ghost use Rattle.protobuf.specs.Little.{little, bytes};
 ghost use Rattle.wire.specs.Tables.{written};
-ghost use Rattle.nuorpyts.specs.Words.{wordAt};
+ghost use Rattle.nuorpyts.specs.Words.{words, wordAt};
 
 // One number, at the start of the tail that is lent.
 fn put_first(tail: &mut [u8], value: u64)
@@ -35,6 +35,24 @@ pub(crate) fn put(out: &mut [u8], at: usize, value: u64)
     ensures { λ r. ⌜ now (out .exit) ≡ written (now (out .entry)) at (bytes 8 value) ⌝ }
 {
     put_first(&mut out[at..], value);
+}
+
+// Two numbers, one behind the other.
+pub(crate) fn put_two(out: &mut [u8], at: usize, first: u64, second: u64)
+    requires { ⌜ at + 16 ≤ length (now out) ⌝ }
+    ensures { λ r. ⌜ now (out .exit) ≡ written (now (out .entry)) at (words (first ∷ second ∷ [])) ⌝ }
+{
+    put(out, at, first);
+    put(out, at + 8, second);
+}
+
+// Three numbers.
+pub(crate) fn put_three(out: &mut [u8], at: usize, first: u64, second: u64, third: u64)
+    requires { ⌜ at + 24 ≤ length (now out) ⌝ }
+    ensures { λ r. ⌜ now (out .exit) ≡ written (now (out .entry)) at (words (first ∷ second ∷ third ∷ [])) ⌝ }
+{
+    put_two(out, at, first, second);
+    put(out, at + 16, third);
 }
 
 // The number in the 4 bytes from `at` on.
