@@ -7,8 +7,9 @@
  * 0, no byte of any buffer changes. A slice for an answer that is too short gives 14 before anything else is looked at. A longer one is
  * fine: only the bytes that the answer takes are written.
  *
- * Every call ends, on all bytes and all arguments, and reads and writes nothing outside what it is lent. For that each pointer with a
- * length above 0 has to point to that many bytes, and bytes that a call may write must not overlap others that it is lent. */
+ * Every call ends, on all bytes and all arguments, and reads and writes nothing outside what it is lent. For that each pointer has to
+ * point to as many bytes as its length says, where the length is 0 to anything but null, and bytes that a call may write must not overlap
+ * others that it is lent. */
 #ifndef NUORPYTS_H
 #define NUORPYTS_H
 

@@ -1,17 +1,23 @@
-//! One input put to both sides. A block is scanned, checked and walked, and
+//! One input put to all sides. A block is scanned, checked and walked, and
 //! its groups and messages are put to the views as payloads; a payload is put
-//! to every view. Where the published Rust is not built in, it has no answers,
-//! and only the counts and the reader's own properties are left.
+//! to every view. Where the published Rust is not built in or the proved
+//! library not linked, it has no answers; without both, only the counts and
+//! the reader's own properties are left.
 
 use reader::group::{NODE, RELATION, WAY};
 use reader::{DenseNodes, Node, Record, Relation, Way};
 
+use crate::by_c;
 use crate::by_published;
 use crate::by_reader;
 use crate::known::GOES_ON;
 use crate::pairs::Pairs;
-use crate::question::{Ask, PAYLOAD, lookups};
+use crate::question::{Ask, PAYLOAD, lookups, strange_lookups};
 use crate::tally::Tally;
+
+/// The other sides, as a difference names them.
+const PUBLISHED: &str = "published";
+const THROUGH_C: &str = "through C";
 
 /// What the inputs so far have shown.
 #[derive(Default)]
@@ -58,17 +64,18 @@ impl Judge {
         }
     }
 
-    /// Asks both sides and compares.
+    /// Asks all sides and compares.
     pub fn ask(&mut self, ask: Ask, bytes: &[u8]) {
         let reader = by_reader::answer(ask, bytes);
         self.tally.count(ask.name(), number_of(ask, &reader));
         self.compare(ask, bytes, &reader);
+        self.compare_through_c(ask, bytes, &reader);
     }
 
-    /// Strings and groups at the ends of a scanned block's tables; then every
-    /// group, and the messages in it.
+    /// Strings and groups at the ends of a scanned block's tables, and by
+    /// strange records; then every group, and the messages in it.
     fn parts(&mut self, buffer: &[u8], record: &Record) {
-        for ask in lookups(record) {
+        for ask in lookups(record).into_iter().chain(strange_lookups(record)) {
             self.ask(ask, buffer);
         }
         for index in 0..record.group_count {
@@ -124,12 +131,24 @@ impl Judge {
         if let Some(published) = by_published::answer(ask, bytes)
             && published != reader
         {
-            self.tally.unexplained(ask, bytes, reader, &published);
+            self.tally
+                .unexplained(ask, bytes, reader, (PUBLISHED, &published));
         }
         if let Ask::Messages { field } = ask
             && by_published::goes_on_after_its_end(bytes, field)
         {
             self.tally.difference(GOES_ON, bytes);
+        }
+    }
+
+    /// Holds an answer of the reader against the proved library's.
+    fn compare_through_c(&mut self, ask: Ask, bytes: &[u8], reader: &str) {
+        if let Some(proved) = by_c::answer(ask, bytes) {
+            self.tally.count_through_c(ask.name());
+            if proved != reader {
+                self.tally
+                    .unexplained(ask, bytes, reader, (THROUGH_C, &proved));
+            }
         }
     }
 
@@ -141,7 +160,7 @@ impl Judge {
             && composed != answer
         {
             self.tally
-                .unexplained(Ask::Check, bytes, &answer, &composed);
+                .unexplained(Ask::Check, bytes, &answer, (PUBLISHED, &composed));
         }
         match by_published::validate_groups(bytes) {
             Some(Ok(())) if verdict == 0 => self.tally.validated += 1,

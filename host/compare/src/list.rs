@@ -1,10 +1,12 @@
 //! The fixed list: questions with their answers, one a line, as
 //! vectors/README.md describes. It is written from what the published Rust
 //! answers where the simple reader agrees (`p`), and from the simple reader
-//! where the Rust has no answer (`r`); and it is checked against both again.
+//! where the Rust has no answer (`r`); and it is checked against both again,
+//! and against the proved library where that is linked and has an answer.
 
 use std::fs;
 
+use crate::by_c;
 use crate::by_published;
 use crate::by_reader;
 use crate::question::Ask;
@@ -44,26 +46,33 @@ fn line(ask: Ask, bytes: &[u8]) -> Result<String, String> {
     Ok(out.done())
 }
 
-/// Checks every line; how many there are, or the first one that differs.
-pub fn check(path: &str) -> Result<u64, String> {
+/// Checks every line; how many hold, or the first one that differs.
+pub fn check(path: &str) -> Result<String, String> {
     let text = fs::read_to_string(path).map_err(|e| format!("{path}: {e}"))?;
-    let mut count = 0;
+    let (mut count, mut through_c) = (0, 0);
     for (number, line) in text.lines().enumerate() {
         if !line.starts_with('#') {
-            check_line(line).map_err(|how| format!("{path}:{}: {how}", number + 1))?;
+            let asked = check_line(line).map_err(|how| format!("{path}:{}: {how}", number + 1))?;
             count += 1;
+            through_c += u64::from(asked);
         }
     }
-    Ok(count)
+    Ok(if by_c::LINKED {
+        format!("{count} answers hold, {through_c} of them through C too")
+    } else {
+        format!("{count} answers hold")
+    })
 }
 
-fn check_line(line: &str) -> Result<(), String> {
+/// Whether the line was asked through C too.
+fn check_line(line: &str) -> Result<bool, String> {
     let (ask, bytes, by, expected) = parse(line).ok_or("the line is not understood")?;
     let reader = by_reader::answer(ask, &bytes);
     if reader != expected {
         return Err(format!("the simple reader says {reader}"));
     }
-    check_published(ask, &bytes, by, expected)
+    check_published(ask, &bytes, by, expected)?;
+    check_through_c(ask, &bytes, expected)
 }
 
 /// The letter must be right too, where the published Rust is at hand.
@@ -75,6 +84,13 @@ fn check_published(ask: Ask, bytes: &[u8], by: &str, expected: &str) -> Result<(
         Some(answer) if answer == expected && by == "p" => Ok(()),
         None if by == "r" => Ok(()),
         answer => Err(format!("the published Rust says {answer:?}")),
+    }
+}
+
+fn check_through_c(ask: Ask, bytes: &[u8], expected: &str) -> Result<bool, String> {
+    match by_c::answer(ask, bytes) {
+        Some(answer) if answer != expected => Err(format!("through C it is {answer}")),
+        answer => Ok(answer.is_some()),
     }
 }
 

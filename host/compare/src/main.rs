@@ -1,10 +1,13 @@
-//! Compares the published Rust with the simple reader of document 01, on
-//! generated and damaged inputs and on real maps, and keeps the fixed list of
-//! answers. Built without the published Rust (feature `published`), it holds
+//! Compares the published Rust and the proved library through C with the
+//! simple reader of document 01, on generated and damaged inputs and on real
+//! maps, and keeps the fixed list of answers. Built without the published Rust
+//! (feature `published`) and the proved library (feature `proved`), it holds
 //! the simple reader against the fixed list, its own properties and the maps.
 //! Exit status 1 where a difference is not explained.
 
 mod args;
+#[cfg_attr(not(feature = "proved"), path = "without_proved.rs")]
+mod by_c;
 mod by_hand;
 #[cfg_attr(not(feature = "published"), path = "without_published.rs")]
 mod by_published;
@@ -48,7 +51,7 @@ fn run(args: &Args) -> Result<bool, String> {
         return list::write(path).map(|()| true);
     }
     if let Some(path) = args.check_list.as_ref().or(args.list.as_ref()) {
-        println!("fixed list: {} answers hold", list::check(path)?);
+        println!("fixed list: {}", list::check(path)?);
     }
     if args.check_list.is_some() {
         return Ok(true);
@@ -58,9 +61,7 @@ fn run(args: &Args) -> Result<bool, String> {
 
 fn compare(args: &Args) -> Result<bool, String> {
     if by_published::COMMIT.is_none() {
-        println!(
-            "the published Rust is not at hand: the simple reader stands alone, beside the fixed list"
-        );
+        println!("the published Rust is not at hand: the fixed list stands for it");
     }
     let started = Instant::now();
     let mut judge = Judge::default();

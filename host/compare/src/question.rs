@@ -212,6 +212,26 @@ pub fn lookups(record: &Record) -> Vec<Ask> {
         .collect()
 }
 
+/// The same questions about records that no scan gave: tables that begin a
+/// byte or half an entry early, so that other bytes stand for places and
+/// lengths, and counts that are one too large.
+pub fn strange_lookups(record: &Record) -> Vec<Ask> {
+    let early = |by| Record {
+        string_table: record.string_table.saturating_sub(by),
+        group_table: record.group_table.saturating_sub(by),
+        ..*record
+    };
+    let more = Record {
+        string_count: record.string_count + 1,
+        group_count: record.group_count + 1,
+        ..*record
+    };
+    [early(1), early(4), more]
+        .iter()
+        .flat_map(lookups)
+        .collect()
+}
+
 /// The first and last index below a count, and the count.
 fn ends(count: u64) -> Vec<u64> {
     let mut ends = vec![0, count.saturating_sub(1), count];

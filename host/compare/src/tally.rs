@@ -3,6 +3,7 @@
 
 use std::collections::BTreeMap;
 
+use crate::by_c;
 use crate::known::KNOWN;
 use crate::question::Ask;
 use crate::text::{Words, parse_bytes};
@@ -15,6 +16,8 @@ const WIDTH: usize = 400;
 #[derive(Default)]
 pub struct Tally {
     rows: BTreeMap<&'static str, [u64; 15]>,
+    /// How often a question was put through C too.
+    through_c: BTreeMap<&'static str, u64>,
     explained: BTreeMap<&'static str, Explained>,
     unexplained: u64,
     shown: Vec<String>,
@@ -33,6 +36,11 @@ impl Tally {
     pub fn count(&mut self, name: &'static str, number: u8) {
         let row = self.rows.entry(name).or_default();
         row[usize::from(number).min(14)] += 1;
+    }
+
+    /// A question was put through C too.
+    pub fn count_through_c(&mut self, name: &'static str) {
+        *self.through_c.entry(name).or_default() += 1;
     }
 
     /// A difference of this kind, explained if the kind is known.
@@ -72,14 +80,16 @@ impl Tally {
         }
     }
 
-    /// A difference that no entry explains.
-    pub fn unexplained(&mut self, ask: Ask, bytes: &[u8], reader: &str, other: &str) {
+    /// A difference that no entry explains, with the other side's name and
+    /// answer.
+    pub fn unexplained(&mut self, ask: Ask, bytes: &[u8], reader: &str, other: (&str, &str)) {
         let what = format!("{} {:?}", ask.name(), ask.numbers());
-        let (ours, theirs) = (from(reader, other), from(other, reader));
+        let (side, answer) = other;
+        let (ours, theirs) = (from(reader, answer), from(answer, reader));
         self.broken(
             &what,
             bytes,
-            &format!("\n  reader: {ours}\n  other:  {theirs}"),
+            &format!("\n  reader: {ours}\n  {side}: {theirs}"),
         );
     }
 
@@ -117,8 +127,9 @@ impl Tally {
     }
 
     fn print_rows(&self) {
+        let column = if by_c::LINKED { " through C" } else { "" };
         println!(
-            "{:<10} {:>9} {:>9}  refused by number",
+            "{:<10} {:>9} {:>9}{column}  refused by number",
             "question", "asked", "taken"
         );
         for (name, row) in &self.rows {
@@ -127,11 +138,21 @@ impl Tally {
                 .map(|number| format!("{number}: {}", row[number]))
                 .collect();
             println!(
-                "{name:<10} {:>9} {:>9}  {}",
+                "{name:<10} {:>9} {:>9}{}  {}",
                 self.asked(name),
                 row[0],
+                self.column_through_c(name),
                 refused.join(", ")
             );
+        }
+    }
+
+    /// There is such a column only where the proved library is linked.
+    fn column_through_c(&self, name: &str) -> String {
+        match self.through_c.get(name) {
+            Some(times) => format!(" {times:>9}"),
+            None if by_c::LINKED => format!(" {:>9}", ""),
+            None => String::new(),
         }
     }
 

@@ -1,0 +1,140 @@
+//! The scan through C, and the strings and groups of a record.
+
+use proved::ByRecord;
+
+use super::faults::Faults;
+use super::lent::Lent;
+use super::shape::{Item, bytes as bytes_of, put};
+use super::told::{OUTSIDE, Told, told};
+use crate::question::{Places, scan_buffer};
+use crate::text::Words;
+
+/// Block length; count and place of the strings, count and place of the
+/// groups; both granularities and both offsets.
+const RECORD: usize = 9;
+const GRANULARITY: usize = 5;
+const DATE_GRANULARITY: usize = 6;
+/// Start and length.
+const RANGE: [Item; 2] = [Item::Number; 2];
+
+/// The record and every byte behind the block.
+pub fn scan(bytes: &[u8], len: u64, room: u64) -> String {
+    let before = scan_buffer(bytes, room);
+    let mut faults = Faults::default();
+    let mut tails = Vec::new();
+    let told = told(RECORD, |record| {
+        let mut buffer = Lent::bytes(&before);
+        let code = proved::scan(buffer.slice(), len as usize, record);
+        let kept = if code == 0 {
+            before.len().min(len as usize)
+        } else {
+            before.len()
+        };
+        let held = buffer.is_unchanged_but(kept..before.len());
+        faults.unless(held, "the buffer changed where it must not");
+        if code == 0 {
+            tails.push(buffer.slice()[kept..].to_vec());
+        }
+        code
+    });
+    tails.dedup();
+    faults.unless(tails.len() < 2, "the tables are not the same each time");
+    faults.join(told.faults);
+    let mut out = Words::new();
+    out.put(told.code);
+    if let Some(tail) = tails.first() {
+        faults.unless(told.numbers.first() == Some(&len), "another block length");
+        put_record(&told.numbers, &mut out);
+        out.bytes(tail);
+    }
+    faults.put(&mut out);
+    out.done()
+}
+
+/// In the order of the other sides, which leave the block's length out.
+fn put_record(numbers: &[u64], out: &mut Words) {
+    if let &[
+        _,
+        strings,
+        string_table,
+        groups,
+        group_table,
+        ref scalars @ ..,
+    ] = numbers
+    {
+        put(&[Item::Number; 4], scalars, 0, out);
+        out.put(string_table).put(strings);
+        out.put(group_table).put(groups);
+    }
+}
+
+/// Start and length of what a record has at an index. Neither the other
+/// numbers of the record nor bytes behind it matter; a slice that is too short
+/// for a record or holds a granularity outside int32 is none: 14.
+pub fn by_record(read: ByRecord, bytes: &[u8], places: Places, index: u64) -> String {
+    let mut buffer = Lent::bytes(bytes);
+    let mut ask = |record: &[u8]| with_record(read, &mut buffer, record, index as usize);
+    let usual = numbers_of(places, 100, 1000);
+    let found = ask(&bytes_of(&usual));
+    let ends = numbers_of(places, i64::from(i32::MIN), i64::from(i32::MAX));
+    let longer = ask(&[bytes_of(&ends), vec![0x5a; 3]].concat());
+    let refused = no_records(&usual)
+        .iter()
+        .all(|record| is_refused(&ask(record)));
+    let mut text = found.text(&RANGE, 0);
+    if longer.text(&RANGE, 0) != text {
+        text = format!("{text} but by a longer record {}", longer.text(&RANGE, 0));
+    }
+    if !refused {
+        text.push_str(" but what is no record is not refused with 14");
+    }
+    text
+}
+
+fn is_refused(told: &Told) -> bool {
+    told.code == OUTSIDE && told.faults == Faults::default()
+}
+
+fn with_record(read: ByRecord, buffer: &mut Lent, record: &[u8], index: usize) -> Told {
+    let mut record = Lent::bytes(record);
+    let mut faults = Faults::default();
+    let mut told = told(RANGE.len(), |out| {
+        let code = read(buffer.slice(), record.slice(), index, out);
+        faults.unless(buffer.is_unchanged(), "the buffer changed");
+        faults.unless(record.is_unchanged(), "the record changed");
+        code
+    });
+    told.faults.join(faults);
+    told
+}
+
+fn numbers_of(places: Places, granularity: i64, date_granularity: i64) -> [u64; RECORD] {
+    [
+        places.block_len,
+        places.string_count,
+        places.string_table,
+        places.group_count,
+        places.group_table,
+        granularity as u64,
+        date_granularity as u64,
+        0,
+        0,
+    ]
+}
+
+/// One byte short of a record, and granularities on both sides of int32.
+fn no_records(numbers: &[u64; RECORD]) -> [Vec<u8>; 4] {
+    let with = |at: usize, value: i64| {
+        let mut numbers = *numbers;
+        numbers[at] = value as u64;
+        bytes_of(&numbers)
+    };
+    let mut short = bytes_of(numbers);
+    short.pop();
+    [
+        short,
+        with(GRANULARITY, i64::from(i32::MAX) + 1),
+        with(GRANULARITY, i64::from(i32::MIN) - 1),
+        with(DATE_GRANULARITY, i64::from(u32::MAX)),
+    ]
+}

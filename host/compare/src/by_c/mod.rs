@@ -1,0 +1,55 @@
+//! The proved library's answers through C, in the same words as the simple
+//! reader's. Each question is put several times: with slices for the answer of
+//! several lengths, in a longer buffer, with ranges and records that are none.
+//! Where one of them goes wrong, or a lent byte changes that must not, the
+//! answer says so at its end, and then it equals no answer of the reader.
+
+mod block;
+mod faults;
+mod lent;
+mod messages;
+mod shape;
+mod told;
+mod views;
+
+use crate::question::{Ask, Places};
+
+/// Whether the proved library is linked.
+pub const LINKED: bool = true;
+
+/// The answer in words; none where C has no such question: the leaf, the
+/// check and the walks.
+pub fn answer(ask: Ask, bytes: &[u8]) -> Option<String> {
+    let text = match ask {
+        Ask::Scan { len, room } => block::scan(bytes, len, room),
+        Ask::Get {
+            place,
+            count,
+            index,
+        } => block::by_record(proved::get, bytes, only_strings(place, count), index),
+        Ask::Group { record, index } => block::by_record(proved::group, bytes, record, index),
+        Ask::Classify => views::classify(bytes),
+        Ask::Node => views::answer(&views::NODE, bytes),
+        Ask::Way => views::answer(&views::WAY, bytes),
+        Ask::Relation => views::answer(&views::RELATION, bytes),
+        Ask::Dense => views::answer(&views::DENSE_NODES, bytes),
+        Ask::DenseInfo => views::answer(&views::DENSE_INFO, bytes),
+        Ask::Info => views::answer(&views::INFO, bytes),
+        Ask::DensePass => views::answer(&views::DENSE, bytes),
+        Ask::Messages { field } => messages::answer(bytes, field),
+        Ask::Varint { .. } | Ask::Field { .. } | Ask::Column => return None,
+        Ask::Check | Ask::Plain | Ask::Full => return None,
+    };
+    Some(text)
+}
+
+/// `get` reads nothing else of a record.
+fn only_strings(place: u64, count: u64) -> Places {
+    Places {
+        block_len: 0,
+        string_table: place,
+        string_count: count,
+        group_table: 0,
+        group_count: 0,
+    }
+}
