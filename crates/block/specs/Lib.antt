@@ -1,4 +1,9 @@
--- What a scanned block must meet to be accepted (document 01, section 4), from its bytes alone.
+-- What a scanned block must meet to be accepted, and what an accepted one says: its listing and its content (document 01, sections 3 and
+-- 4), from its bytes alone.
 pub mod Columns
 pub mod Tags
 pub mod Check
+pub mod Strings
+pub mod Stored
+pub mod Listing
+pub mod Content
