@@ -2,16 +2,15 @@
 -- met. A group: the dense pass over all its fields, then its dense message, its nodes, its ways, its relations.
 use Prim.Native.Nat.{ℕ}
 use mathlib.Core.List.{List, [], _∷_}
-use mathlib.Core.Bool.{Bool, false}
+use mathlib.Core.Bool.{false}
 use lib.Dec.{eqb}
 use Rattle.protobuf.specs.declared.refusal.Refusal.the-variants.{Counts}
 use Rattle.protobuf.specs.Read.{choose}
 use Rattle.protobuf.specs.Message.{message}
 use Rattle.protobuf.specs.Column.{Column}
-use Rattle.wire.specs.declared.part.Part.{Part}
 use Rattle.wire.specs.Outcome.{Outcome, kept, refused, onward}
 use Rattle.wire.specs.View.{noPart, Schema, Slots, view}
-use Rattle.wire.specs.Schema.{primitiveBlock, stringTable, node, way, relation, denseNodes, denseInfo, info}
+use Rattle.wire.specs.Schema.{node, way, relation, denseNodes, denseInfo, info}
 use Rattle.wire.specs.Group.{denseFrom}
 use Rattle.block.specs.Columns.{bytesIn, messagesOf, columnIn, countOf}
 use Rattle.block.specs.Tags.{densePairs}

@@ -1,12 +1,11 @@
 -- The content of a block: the other side of the claim about whole runs, from its bytes alone. Stored values in their order, where the
 -- listing has running sums; texts, where the block has numbers. Metadata is no part of it.
 use Prim.Native.Nat.{ℕ}
-use mathlib.Core.List.{List, [], _∷_, map}
+use mathlib.Core.List.{List, map}
 use mathlib.Core.Option.{Option}
 use lib.IntN.{ℤ}
 use Rattle.protobuf.specs.Signed.{twos, zigzag}
 use Rattle.protobuf.specs.Column.{int32s, sint64s}
-use Rattle.wire.specs.View.{Slots}
 use Rattle.wire.specs.Schema.{primitiveBlock, node, way, relation}
 use Rattle.wire.specs.Block.{blockFields}
 use Rattle.block.specs.Columns.{messagesOf, columnIn}

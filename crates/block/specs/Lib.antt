@@ -7,3 +7,4 @@ pub mod Strings
 pub mod Stored
 pub mod Listing
 pub mod Content
+pub mod Worked

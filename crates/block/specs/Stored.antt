@@ -2,19 +2,16 @@
 -- document 01 reads them, with nothing summed. The listing and the content are both made of this.
 use Prim.Native.Nat.{ℕ}
 use mathlib.Core.List.{List, [], _∷_}
-use mathlib.Core.Bool.{Bool}
 use lib.ListN.{length}
 use lib.IntN.{ℤ}
 use Rattle.protobuf.specs.Read.{choose}
 use Rattle.protobuf.specs.Message.{message}
-use Rattle.protobuf.specs.Signed.{twos, zigzag}
 use Rattle.protobuf.specs.Stream.{end, more}
-use Rattle.protobuf.specs.Column.{Column, int32s, uint32s, sint64s}
+use Rattle.protobuf.specs.Column.{Column, uint32s, sint64s}
 use Rattle.wire.specs.declared.part.Part.{Part}
 use Rattle.wire.specs.Outcome.{Outcome, kept, refused}
 use Rattle.wire.specs.View.{noPart, Schema, Slots, empty, view}
-use Rattle.wire.specs.Schema.{primitiveBlock, node, way, relation, denseNodes}
-use Rattle.wire.specs.Block.{blockFields}
+use Rattle.wire.specs.Schema.{primitiveBlock, denseNodes}
 use Rattle.wire.specs.Group.{denseFrom}
 use Rattle.block.specs.Columns.{bytesIn, messagesOf, columnIn}
 use Rattle.block.specs.Tags.{Pair, densePairs}
@@ -57,8 +54,11 @@ pub record Dense : Type 0 where
   pub tags : List (List Pair)
 
 -- the dense message of a group; without one there are no nodes
+abbrev pub foundBytes : List ℕ → Part → List ℕ
+foundBytes group found = choose (found .present) (bytesIn group found) []
+
 abbrev pub denseBytes : List ℕ → List ℕ
-denseBytes group = bytesIn group (keptOr noPart (denseFrom noPart (message group)))
+denseBytes group = foundBytes group (keptOr noPart (denseFrom noPart (message group)))
 
 unfoldable pub denseBy : List ℕ → Slots → Dense
 denseBy s slots =

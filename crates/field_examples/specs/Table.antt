@@ -4,15 +4,15 @@ use Prim.Native.Nat.{ℕ, suc, _+_, _-_, _*_, _^_}
 use mathlib.Core.Bool.{false}
 use mathlib.Core.Path.{_≡_, refl}
 use mathlib.Core.List.{List, [], _∷_, _++_}
-use lib.ListN.{length, getD, take, drop, replicate}
+use lib.ListN.{length, take, drop, replicate}
 use lib.IntN.{ℤ, pos, negsuc}
 use Rattle.protobuf.specs.Refusal.{number}
 use Rattle.protobuf.specs.Read.{andThen}
 use Rattle.protobuf.specs.Varint.{digits, varint}
 use Rattle.protobuf.specs.Tag.{legal, tag, tagAt}
 use Rattle.protobuf.specs.Payload.{rawVarint, fixed, counted, lengthDelimited, valueBy, fieldIn, fieldsOf, groupBy, payload}
-use Rattle.protobuf.specs.Stream.{Stream, end, more, unrolled, mapped}
-use Rattle.protobuf.specs.Message.{Field, MessageEnd, complete, cut, spoilt, Message, message, fieldAt, messageFrom}
+use Rattle.protobuf.specs.Stream.{end, more, unrolled, mapped}
+use Rattle.protobuf.specs.Message.{complete, cut, spoilt, Message, message, fieldAt, messageFrom}
 use Rattle.protobuf.specs.Signed.{signed, twos, unzigzag, zigzag, residue, wrap}
 use Rattle.wire.specs.declared.record.WireBlock.{WireBlock}
 use Rattle.wire.specs.Outcome.{Outcome, kept, refused, onward, each}
@@ -26,7 +26,7 @@ use Rattle.block.specs.Columns.{partsOf, messagesOf, columnIn, countOf}
 use Rattle.block.specs.Tags.{Pair, takePairs, densePairs}
 use Rattle.block.specs.Check.{passed, all, checked}
 use Rattle.protobuf.specs.Little.{bytes}
-use Rattle.protobuf.specs.Column.{ColumnEnd, ended, Column, column, valueAt, columnFrom, sint64s, sums, sumsFrom}
+use Rattle.protobuf.specs.Column.{Column, column, valueAt, columnFrom, sint64s, sums, sumsFrom}
 
 -- the number that reading a message gives, 0 where it is complete
 unfoldable pub numberOf : Message → ℕ

@@ -15,4 +15,3 @@ pub mod Machine
 pub mod Little
 pub mod Within
 pub mod Test
-pub mod Sums

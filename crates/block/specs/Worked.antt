@@ -1,4 +1,4 @@
--- A worked pair of blocks: two that say the same in other bytes, with their one listing as a value, so that the definitions are pinned by
+-- A worked pair of blocks: two that say the same in other bytes, with their one listing and their one content as values, so that the definitions are pinned by
 -- what they give and not only by an equality between them. In the block: a tag that is shown and a list of tags cut at a pair without a text, a
 -- dense key of 4,294,967,296, role texts, an empty one and none, a member of each case, an empty group, a dense message without nodes. The twin
 -- has other metadata, date granularity, order of strings and fields, unknown fields and longer spellings.
@@ -18,13 +18,13 @@ use Rattle.protobuf.specs.Column.{valueAt, columnFrom, sumsFrom}
 use Rattle.wire.specs.Outcome.{onward, each}
 use Rattle.wire.specs.View.{columnPart, infoPart, put, store, viewFrom, view}
 use Rattle.wire.specs.Group.{denseFrom}
 use Rattle.block.specs.Columns.{partsOf, messagesOf, columnIn, countOf}
 use Rattle.block.specs.Tags.{takePairs, densePairs}
 use Rattle.block.specs.Check.{passed, all, sameCounts, sameThree, elementBy, checkDense, checkGroup, checked}
 use Rattle.block.specs.Strings.{Text, Tag, textAt, shown, roleText}
 use Rattle.block.specs.Stored.{valuesOf, pairUp, stringsOf, tagsIn, denseBy}
-use Rattle.block.specs.Listing.{Kind, denseNode, looseNode, aWay, aRelation, Position, MemberId, ofNode, ofWay, ofRelation, unknown, Member, Element, Listing, membersBy, nodeElement, wayElement, relationElement, denseBySums, denseElements, groupElements, elementsFrom, listing}
-use Rattle.block.specs.Content.{denseContent, nodeContent, wayContent, relationContent, groupContent, content}
+use Rattle.block.specs.Listing.{denseNode, looseNode, aWay, aRelation, Position, MemberId, ofNode, ofWay, ofRelation, unknown, Member, Listing, membersBy, nodeElement, wayElement, relationElement, denseBySums, denseElements, groupElements, elementsFrom, listing}
+use Rattle.block.specs.Content.{DenseContent, GroupContent, Content, NodeContent, WayContent, MembersContent, RelationContent, denseContent, nodeContent, wayContent, relationContent, groupContent, content}
 
 -- ---- what both say
 
@@ -76,6 +76,55 @@ worked =
           ∷ [];
     }
 
+abbrev pub noDense : DenseContent
+noDense = record { ids = []; lats = []; lons = []; tags = [] }
+
+abbrev pub stored : Content
+stored =
+    record {
+      granularity = pos 100;
+      latoffset = pos 0;
+      lonoffset = pos 0;
+      groups =
+          record {
+            dense =
+                record {
+                  ids = pos 5 ∷ pos 1 ∷ [];
+                  lats = pos 100 ∷ negsuc 2 ∷ [];
+                  lons = pos 200 ∷ pos 7 ∷ [];
+                  tags = (track ∷ []) ∷ [] ∷ [];
+                };
+            nodes = record { id = pos 9; lat = negsuc 0; lon = pos 2; tags = track ∷ [] } ∷ [];
+            ways = [];
+            relations = [];
+          }
+          ∷ record { dense = noDense; nodes = []; ways = []; relations = [] }
+          ∷ record {
+            dense = noDense;
+            nodes = [];
+            ways = record { id = pos 7; tags = track ∷ []; references = pos 1 ∷ pos 1 ∷ negsuc 0 ∷ [] } ∷ [];
+            relations = [];
+          }
+          ∷ record {
+            dense = noDense;
+            nodes = [];
+            ways = [];
+            relations =
+                record {
+                  id = negsuc 1;
+                  tags = [];
+                  members =
+                      record {
+                        roles = some outer ∷ some [] ∷ none ∷ none ∷ [];
+                        ids = pos 5 ∷ pos 1 ∷ pos 1 ∷ pos 1 ∷ [];
+                        types = pos 0 ∷ pos 1 ∷ pos 2 ∷ pos 7 ∷ [];
+                      };
+                }
+                ∷ [];
+          }
+          ∷ [];
+    }
+
 -- ---- the blocks
 
 abbrev pub first : List ℕ
@@ -103,7 +152,8 @@ pub record Worked : Type 0 where
   pub twin-accepted : checked twin ≡ passed
   pub first-listing : listing first ≡ worked
   pub twin-listing : listing twin ≡ worked
-  pub contents : content first ≡ content twin
+  pub first-content : content first ≡ stored
+  pub twin-content : content twin ≡ stored
 
 pub worked-pair : Worked
 unfolding andThen digits varint legal tag tagAt rawVarint fixed counted lengthDelimited valueBy fieldIn fieldsOf groupBy payload unrolled mapped fieldAt messageFrom signed twos unzigzag zigzag residue wrap valueAt columnFrom sumsFrom onward each columnPart infoPart put store viewFrom view denseFrom partsOf messagesOf columnIn countOf takePairs densePairs all sameCounts sameThree elementBy checkDense checkGroup checked textAt shown roleText valuesOf pairUp stringsOf tagsIn denseBy membersBy nodeElement wayElement relationElement denseBySums denseElements groupElements elementsFrom listing denseContent nodeContent wayContent relationContent groupContent content
@@ -113,5 +163,6 @@ worked-pair =
       twin-accepted = refl;
       first-listing = refl;
       twin-listing = refl;
-      contents = refl;
+      first-content = refl;
+      twin-content = refl;
     }

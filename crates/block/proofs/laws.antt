@@ -1,0 +1,7 @@
+-- One file of laws for each subject.
+pub mod Lists
+pub mod Sums
+pub mod Split
+pub mod Said
+pub mod Equal
+pub mod Accepted

@@ -1,0 +1,207 @@
+-- What acceptance says of counts: in an accepted block the columns of each relation and of each dense message are even. So for any two
+-- accepted blocks the listings are equal exactly when the contents are.
+use Prim.Native.Nat.{ℕ, zero, suc, _+_}
+use mathlib.Core.Path.{_≡_, refl, sym, ap, _∙_, subst}
+use mathlib.Core.Logic.{_↔_}
+use mathlib.Core.List.{List, [], _∷_}
+use mathlib.Core.Bool.{Bool, true, false}
+use native.Mathlib.Omega.{arith}
+use lib.ListN.{length}
+use lib.Dec.{eqb}
+use borrow.Author.Tests.{eqb-true}
+use Rattle.protobuf.specs.declared.refusal.Refusal.{Refusal}
+use Rattle.protobuf.specs.declared.refusal.Refusal.the-variants.{Counts}
+use Rattle.protobuf.specs.Read.{choose}
+use Rattle.protobuf.specs.Tag.{tagAt}
+use Rattle.protobuf.specs.Stream.{end, more, unrolled, mapped}
+use Rattle.protobuf.specs.Column.{ended, cut, Column, valueAt, columnFrom, int32s, sint64s}
+use Rattle.wire.specs.declared.part.Part.{Part}
+use Rattle.wire.specs.Outcome.{Outcome, kept, refused, onward, each}
+use Rattle.wire.specs.View.{noPart, Slots, empty, viewFrom, view}
+use Rattle.wire.specs.Schema.{relation, denseNodes, denseInfo, info}
+use Rattle.wire.specs.Group.{denseFrom}
+use Rattle.protobuf.specs.Message.{message, fieldAt, messageFrom}
+use Rattle.block.specs.Columns.{bytesIn, messagesOf, columnIn, countOf}
+use Rattle.block.specs.Tags.{Pair, NodePairs, takePairs, densePairs}
+use Rattle.block.specs.Check.{passed, all, sameCounts, sameThree, elementBy, checkNode, checkWay, checkRelation, checkDense, checkGroup, checked}
+use Rattle.block.specs.Stored.{keptOr, slotsOf, valuesOf, foundBytes, denseBy}
+use Rattle.block.specs.Listing.{listing}
+use Rattle.block.specs.Content.{content}
+use Rattle.block.proofs.laws.Lists.{Each, no-more, and-also}
+use Rattle.block.proofs.laws.Sums.{zigzag-values}
+use Rattle.block.proofs.laws.Said.{EvenRelation, EvenDense}
+use Rattle.block.proofs.laws.Equal.{EvenGroup, even-equal}
+
+-- ---- outcomes that were kept
+
+pub record Went {A B : Type 0} (x : Outcome A) (f : A → Outcome B) (b : B) : Type 0 where
+  pub value : A
+  pub is : x ≡ kept value
+  pub on : f value ≡ kept b
+
+pub went : {A B : Type 0} (x : Outcome A) (f : A → Outcome B) {b : B} → onward x f ≡ kept b → Went x f b
+unfolding onward
+went (kept a) f p = record { value = a; is = refl; on = p }
+went (refused r) f p = absurd (let z : _≡_ {A = ℕ} 0 1 = cc in omega arith)
+
+record Made {A B : Type 0} (x : Outcome A) (f : A → B) (b : B) : Type 0 where
+  value : A
+  is : x ≡ kept value
+  so : f value ≡ b
+
+made : {A B : Type 0} (x : Outcome A) (f : A → B) {b : B} → each f x ≡ kept b → Made x f b
+unfolding each
+made (kept a) f {b} p = record { value = a; is = refl; so = ap (keptOr b) p }
+made (refused r) f p = absurd (let z : _≡_ {A = ℕ} 0 1 = cc in omega arith)
+
+pub all-passed : {A : Type 0} (check : A → Outcome Unit) (xs : List A) → all check xs ≡ passed → Each (λ (a : A). check a ≡ passed) xs
+unfolding all
+all-passed check [] p = no-more
+all-passed check (x ∷ xs) p =
+    let w = went (check x) (λ u. all check xs) p in
+    and-also (w .is) (all-passed check xs (w .on))
+
+-- ---- counts
+
+count-values : {A : Type 0} (f : ℕ → A) (c : Column ℕ) {n : ℕ} → countOf c ≡ kept n → length (valuesOf (mapped f c)) ≡ n
+unfolding countOf valuesOf mapped
+count-values f (end ended) {n} p = ap (keptOr n) p
+count-values f (end (cut r)) p = absurd (let z : _≡_ {A = ℕ} 0 1 = cc in omega arith)
+count-values f (more v rest) p =
+    let m = made (countOf rest) (λ (k : ℕ). 1 + k) p in
+    omega (arith, count-values f rest (m .is), m .so)
+
+plain-values : (c : Column ℕ) {n : ℕ} → countOf c ≡ kept n → length (valuesOf c) ≡ n
+unfolding countOf valuesOf
+plain-values (end ended) {n} p = ap (keptOr n) p
+plain-values (end (cut r)) p = absurd (let z : _≡_ {A = ℕ} 0 1 = cc in omega arith)
+plain-values (more v rest) p =
+    let m = made (countOf rest) (λ (k : ℕ). 1 + k) p in
+    omega (arith, plain-values rest (m .is), m .so)
+
+chosen : (t : Bool) (a b : ℕ) (r : Refusal) → choose t (kept a) (refused r) ≡ kept b → (t ≡ true) × (a ≡ b)
+chosen true a b r p = (refl, ap (keptOr b) p)
+chosen false a b r p = absurd (let z : _≡_ {A = ℕ} 0 1 = cc in omega arith)
+
+both-true : (s t : Bool) → choose s t false ≡ true → (s ≡ true) × (t ≡ true)
+both-true true t p = (refl, p)
+both-true false t p = absurd (let z : _≡_ {A = ℕ} 0 1 = cc in omega arith)
+
+record Counted (a b c : Column ℕ) (n : ℕ) : Type 0 where
+  first : countOf a ≡ kept n
+  second : countOf b ≡ kept n
+  third : countOf c ≡ kept n
+
+three : (a b c : Column ℕ) {n : ℕ} → sameThree a b c ≡ kept n → Counted a b c n
+unfolding sameThree
+three a b c {n} p =
+    let wa = went (countOf a) (λ l. onward (countOf b) λ m. onward (countOf c) λ k. choose (choose (eqb l m) (eqb m k) false) (kept l) (refused Counts)) p in
+    let l = wa .value in
+    let wb = went (countOf b) (λ m. onward (countOf c) λ k. choose (choose (eqb l m) (eqb m k) false) (kept l) (refused Counts)) (wa .on) in
+    let m = wb .value in
+    let wc = went (countOf c) (λ k. choose (choose (eqb l m) (eqb m k) false) (kept l) (refused Counts)) (wb .on) in
+    let k = wc .value in
+    let test = chosen (choose (eqb l m) (eqb m k) false) l n Counts (wc .on) in
+    let tests = both-true (eqb l m) (eqb m k) (test .0) in
+    let lm : l ≡ m = eqb-true l m (tests .0) in
+    let mk : m ≡ k = eqb-true m k (tests .1) in
+    let ln : l ≡ n = test .1 in
+    record {
+      first = wa .is ∙ ap kept ln;
+      second = wb .is ∙ ap kept (sym lm ∙ ln);
+      third = wc .is ∙ ap kept (sym mk ∙ sym lm ∙ ln);
+    }
+
+pairs-length : (n : ℕ) (c : Column ℕ) {found : List (List Pair)} → densePairs n c ≡ kept found → length found ≡ n
+unfolding densePairs
+pairs-length zero c {found} p = ap length (sym (ap (keptOr found) p))
+pairs-length (suc n) c p =
+    let w = went (takePairs c) (λ (f : NodePairs). each (λ others. f .pairs ∷ others) (densePairs n (f .rest))) p in
+    let m = made (densePairs n (w .value .rest)) (λ others. w .value .pairs ∷ others) (w .on) in
+    sym (ap length (m .so)) ∙ ap suc (pairs-length n (w .value .rest) (m .is))
+
+-- ---- an accepted relation
+
+even-relation : (s : List ℕ) → checkRelation s ≡ passed → EvenRelation s
+unfolding elementBy
+even-relation s p =
+    let w = went (view relation s) _ p in
+    let slots = w .value in
+    let wi = went (view info (bytesIn s (slots 4 .part))) _ (w .on) in
+    let wk = went (sameCounts (columnIn s slots 2) (columnIn s slots 3)) _ (wi .on) in
+    let wm = went (sameThree (columnIn s slots 8) (columnIn s slots 9) (columnIn s slots 10)) _ (wk .on) in
+    let c = three (columnIn s slots 8) (columnIn s slots 9) (columnIn s slots 10) (wm .is) in
+    let same : slots ≡ slotsOf relation s = ap (keptOr empty) (sym (w .is)) in
+    record {
+      ids = subst (λ (k : Slots). length (valuesOf (int32s (columnIn s k 8))) ≡ length (valuesOf (sint64s (columnIn s k 9)))) same (count-values _ (columnIn s slots 8) (c .first) ∙ sym (count-values _ (columnIn s slots 9) (c .second)));
+      types = subst (λ (k : Slots). length (valuesOf (sint64s (columnIn s k 9))) ≡ length (valuesOf (int32s (columnIn s k 10)))) same (count-values _ (columnIn s slots 9) (c .second) ∙ sym (count-values _ (columnIn s slots 10) (c .third)));
+    }
+
+-- ---- an accepted dense message
+
+even-dense : (s : List ℕ) → checkDense s ≡ passed → EvenDense (denseBy s (slotsOf denseNodes s))
+unfolding checkDense denseBy
+even-dense s p =
+    let w = went (view denseNodes s) _ p in
+    let slots = w .value in
+    let wi = went (view denseInfo (bytesIn s (slots 5 .part))) _ (w .on) in
+    let wc = went (sameThree (columnIn s slots 1) (columnIn s slots 8) (columnIn s slots 9)) _ (wi .on) in
+    let n = wc .value in
+    let wp = went (densePairs n (columnIn s slots 10)) _ (wc .on) in
+    let c = three (columnIn s slots 1) (columnIn s slots 8) (columnIn s slots 9) (wc .is) in
+    let ids = count-values _ (columnIn s slots 1) (c .first) in
+    let tags = ap (keptOr []) (ap (λ (k : ℕ). densePairs k (columnIn s slots 10)) (plain-values (columnIn s slots 1) (c .first)) ∙ wp .is) in
+    let same : slots ≡ slotsOf denseNodes s = ap (keptOr empty) (sym (w .is)) in
+    subst (λ (k : Slots). EvenDense (denseBy s k)) same
+    (record {
+      lats = ids ∙ sym (count-values _ (columnIn s slots 8) (c .second));
+      lons = ids ∙ sym (count-values _ (columnIn s slots 9) (c .third));
+      tags = ids ∙ sym (ap length tags ∙ pairs-length n (columnIn s slots 10) (wp .is));
+      ids-held = zigzag-values 64 (columnIn s slots 1);
+      lats-held = zigzag-values 64 (columnIn s slots 8);
+      lons-held = zigzag-values 64 (columnIn s slots 9);
+    })
+
+-- no message at all is an accepted one without nodes
+nothing-dense : checkDense [] ≡ passed
+unfolding tagAt unrolled fieldAt messageFrom valueAt columnFrom onward view viewFrom columnIn countOf densePairs all sameThree checkDense
+nothing-dense = refl
+
+found-even : (group : List ℕ) (found : Part) → all checkDense (choose (found .present) (bytesIn group found ∷ []) []) ≡ passed → EvenDense (denseBy (foundBytes group found) (slotsOf denseNodes (foundBytes group found)))
+unfolding all
+found-even group found p = by (found .present) p
+  where
+    by : (t : Bool) → all checkDense (choose t (bytesIn group found ∷ []) []) ≡ passed → EvenDense (denseBy (choose t (bytesIn group found) []) (slotsOf denseNodes (choose t (bytesIn group found) [])))
+    by true q = even-dense (bytesIn group found) (went (checkDense (bytesIn group found)) (λ u. passed) q .is)
+    by false q = even-dense [] nothing-dense
+
+-- ---- an accepted group, and block
+
+even-group : (s : List ℕ) → checkGroup s ≡ passed → EvenGroup s
+unfolding checkGroup
+even-group s p =
+    let w = went (denseFrom noPart (message s)) _ p in
+    let found = w .value in
+    let wd = went (all checkDense (choose (found .present) (bytesIn s found ∷ []) [])) _ (w .on) in
+    let wn = went (all checkNode (messagesOf 1 s)) _ (wd .on) in
+    let ww = went (all checkWay (messagesOf 3 s)) _ (wn .on) in
+    let same : found ≡ keptOr noPart (denseFrom noPart (message s)) = ap (keptOr noPart) (sym (w .is)) in
+    record {
+      dense = subst (λ (f : Part). EvenDense (denseBy (foundBytes s f) (slotsOf denseNodes (foundBytes s f)))) same (found-even s found (wd .is));
+      relations = relations-even (messagesOf 4 s) (all-passed checkRelation (messagesOf 4 s) (ww .on));
+    }
+  where
+    relations-even : (ms : List (List ℕ)) → Each (λ (m : List ℕ). checkRelation m ≡ passed) ms → Each EvenRelation ms
+    relations-even [] h = no-more
+    relations-even (m ∷ ms) (and-also h hs) = and-also (even-relation m h) (relations-even ms hs)
+
+even-groups : (gs : List (List ℕ)) → Each (λ (g : List ℕ). checkGroup g ≡ passed) gs → Each EvenGroup gs
+even-groups [] h = no-more
+even-groups (g ∷ gs) (and-also h hs) = and-also (even-group g h) (even-groups gs hs)
+
+even-block : (block : List ℕ) → checked block ≡ passed → Each EvenGroup (messagesOf 2 block)
+unfolding checked
+even-block block p = even-groups (messagesOf 2 block) (all-passed checkGroup (messagesOf 2 block) p)
+
+pub accepted-equal : (a b : List ℕ) → checked a ≡ passed → checked b ≡ passed → (listing a ≡ listing b) ↔ (content a ≡ content b)
+accepted-equal a b p q = even-equal a b (even-block a p) (even-block b q)
