@@ -6,6 +6,8 @@ use Prim.Native.Nat.{ℕ}
 use mathlib.Core.Path.{_≡_, refl}
 use mathlib.Core.List.{List, [], _∷_, _++_}
 use mathlib.Core.Option.{Option, none, some}
+use lib.ListN.{length, replicate}
+use Rattle.protobuf.specs.Little.{bytes}
 use lib.IntN.{ℤ, pos, negsuc}
 use Rattle.protobuf.specs.Read.{andThen}
 use Rattle.protobuf.specs.Varint.{digits, varint}
@@ -15,7 +17,9 @@ use Rattle.protobuf.specs.Stream.{unrolled, mapped}
 use Rattle.protobuf.specs.Message.{fieldAt, messageFrom}
 use Rattle.protobuf.specs.Signed.{signed, twos, unzigzag, zigzag, residue, wrap}
 use Rattle.protobuf.specs.Column.{valueAt, columnFrom, sumsFrom}
-use Rattle.wire.specs.Outcome.{onward, each}
+use Rattle.wire.specs.Outcome.{Outcome, kept, onward, each}
+use Rattle.wire.specs.Tables.{entries}
+use Rattle.wire.specs.Scan.{tablesStage, stringsStage, fieldsStage, scanned}
 use Rattle.wire.specs.View.{columnPart, infoPart, put, store, viewFrom, view}
 use Rattle.wire.specs.Group.{denseFrom}
 use Rattle.block.specs.Columns.{partsOf, messagesOf, columnIn, countOf}
@@ -147,20 +151,28 @@ twin =
     ++ (0x88 ∷ 0x01 ∷ 0xE4 ∷ 0x00 ∷ [])
     ++ (0x0A ∷ 0x18 ∷ 0x0A ∷ 0x00 ∷ 0x0A ∷ 0x04 ∷ 0x70 ∷ 0x61 ∷ 0x74 ∷ 0x68 ∷ 0x0A ∷ 0x05 ∷ 0x6F ∷ 0x75 ∷ 0x74 ∷ 0x65 ∷ 0x72 ∷ 0x0A ∷ 0x07 ∷ 0x68 ∷ 0x69 ∷ 0x67 ∷ 0x68 ∷ 0x77 ∷ 0x61 ∷ 0x79 ∷ [])
 
+-- the group count of a block's record, with n bytes behind the block
+abbrev pub groupsScanned : List ℕ → ℕ → Outcome ℕ
+groupsScanned block n = each (λ x. x .block .groups) (scanned (block ++ replicate n 0) (length block))
+
 pub record Worked : Type 0 where
-  pub first-accepted : checked first ≡ passed
-  pub twin-accepted : checked twin ≡ passed
+  pub first-scanned : groupsScanned first 64 ≡ kept 4
+  pub twin-scanned : groupsScanned twin 64 ≡ kept 4
+  pub first-checked : checked first ≡ passed
+  pub twin-checked : checked twin ≡ passed
   pub first-listing : listing first ≡ worked
   pub twin-listing : listing twin ≡ worked
   pub first-content : content first ≡ stored
   pub twin-content : content twin ≡ stored
 
 pub worked-pair : Worked
-unfolding andThen digits varint legal tag tagAt rawVarint fixed counted lengthDelimited valueBy fieldIn fieldsOf groupBy payload unrolled mapped fieldAt messageFrom signed twos unzigzag zigzag residue wrap valueAt columnFrom sumsFrom onward each columnPart infoPart put store viewFrom view denseFrom partsOf messagesOf columnIn countOf takePairs densePairs all sameCounts sameThree elementBy checkDense checkGroup checked textAt shown roleText valuesOf pairUp stringsOf tagsIn denseBy membersBy nodeElement wayElement relationElement denseBySums denseElements groupElements elementsFrom listing denseContent nodeContent wayContent relationContent groupContent content
+unfolding bytes entries tablesStage stringsStage fieldsStage scanned andThen digits varint legal tag tagAt rawVarint fixed counted lengthDelimited valueBy fieldIn fieldsOf groupBy payload unrolled mapped fieldAt messageFrom signed twos unzigzag zigzag residue wrap valueAt columnFrom sumsFrom onward each columnPart infoPart put store viewFrom view denseFrom partsOf messagesOf columnIn countOf takePairs densePairs all sameCounts sameThree elementBy checkDense checkGroup checked textAt shown roleText valuesOf pairUp stringsOf tagsIn denseBy membersBy nodeElement wayElement relationElement denseBySums denseElements groupElements elementsFrom listing denseContent nodeContent wayContent relationContent groupContent content
 worked-pair =
     record {
-      first-accepted = refl;
-      twin-accepted = refl;
+      first-scanned = refl;
+      twin-scanned = refl;
+      first-checked = refl;
+      twin-checked = refl;
       first-listing = refl;
       twin-listing = refl;
       first-content = refl;

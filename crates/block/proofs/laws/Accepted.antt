@@ -63,21 +63,21 @@ all-passed check (x ∷ xs) p =
 
 -- ---- counts
 
-count-values : {A : Type 0} (f : ℕ → A) (c : Column ℕ) {n : ℕ} → countOf c ≡ kept n → length (valuesOf (mapped f c)) ≡ n
-unfolding countOf valuesOf mapped
-count-values f (end ended) {n} p = ap (keptOr n) p
-count-values f (end (cut r)) p = absurd (let z : _≡_ {A = ℕ} 0 1 = cc in omega arith)
-count-values f (more v rest) p =
-    let m = made (countOf rest) (λ (k : ℕ). 1 + k) p in
-    omega (arith, count-values f rest (m .is), m .so)
-
 plain-values : (c : Column ℕ) {n : ℕ} → countOf c ≡ kept n → length (valuesOf c) ≡ n
 unfolding countOf valuesOf
 plain-values (end ended) {n} p = ap (keptOr n) p
 plain-values (end (cut r)) p = absurd (let z : _≡_ {A = ℕ} 0 1 = cc in omega arith)
 plain-values (more v rest) p =
-    let m = made (countOf rest) (λ (k : ℕ). 1 + k) p in
-    omega (arith, plain-values rest (m .is), m .so)
+    let m = made (countOf rest) (λ (k : ℕ). 1 + k) p in omega (arith, plain-values rest (m .is), m .so)
+
+-- what its field's type makes of a column's values does not change how many they are
+mapped-length : {A : Type 0} (f : ℕ → A) (c : Column ℕ) → length (valuesOf (mapped f c)) ≡ length (valuesOf c)
+unfolding valuesOf mapped
+mapped-length f (end e) = refl
+mapped-length f (more v rest) = omega (arith, mapped-length f rest)
+
+count-values : {A : Type 0} (f : ℕ → A) (c : Column ℕ) {n : ℕ} → countOf c ≡ kept n → length (valuesOf (mapped f c)) ≡ n
+count-values f c p = mapped-length f c ∙ plain-values c p
 
 chosen : (t : Bool) (a b : ℕ) (r : Refusal) → choose t (kept a) (refused r) ≡ kept b → (t ≡ true) × (a ≡ b)
 chosen true a b r p = (refl, ap (keptOr b) p)

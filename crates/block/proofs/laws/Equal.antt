@@ -13,7 +13,7 @@ use Rattle.block.specs.Stored.{stringsOf, Dense, denseOf}
 use Rattle.block.specs.Listing.{Element, Listing, nodeElement, wayElement, relationElement, denseBySums, denseElements, groupElements, elementsFrom, listing}
 use Rattle.block.specs.Content.{GroupContent, Content, nodeContent, wayContent, relationContent, groupContent, content}
 use Rattle.block.proofs.laws.Lists.{Each, no-more, and-also, headOr, tailOr, map-through}
-use Rattle.block.proofs.laws.Split.{Of, Behind, split, all-behind, still-behind, both-behind}
+use Rattle.block.proofs.laws.Split.{rank, Of, Behind, split, all-behind, still-behind, both-behind}
 use Rattle.block.proofs.laws.Said.{map-length, node-told, node-listed, way-told, way-listed, EvenRelation, relation-told, relation-listed, EvenDense, dense-told, dense-listed}
 
 -- every column of a group that the check compares has the count of its neighbours
@@ -26,6 +26,10 @@ any [] = no-more
 any (x ∷ xs) = and-also tt (any xs)
 
 -- ---- ranks
+
+all-of : {r : ℕ} (f : List ℕ → Element) → ((m : List ℕ) → rank (f m) ≡ r) → (ms : List (List ℕ)) → Of r (map f ms)
+all-of f h [] = no-more
+all-of f h (m ∷ ms) = and-also (h m) (all-of f h ms)
 
 module _ (group : ℕ) (strings : List Text) where
   dense-rank : (ids lats lons : List ℤ) (tags : List (List Pair)) → Of (4 * group + 0) (denseBySums group strings ids lats lons tags)
@@ -42,18 +46,15 @@ module _ (group : ℕ) (strings : List Text) where
 
   nodes-of : (ms : List (List ℕ)) → Of (4 * group + 1) (map (nodeElement group strings) ms)
   unfolding nodeElement
-  nodes-of [] = no-more
-  nodes-of (m ∷ ms) = and-also refl (nodes-of ms)
+  nodes-of = all-of (nodeElement group strings) (λ m. refl)
 
   ways-of : (ms : List (List ℕ)) → Of (4 * group + 2) (map (wayElement group strings) ms)
   unfolding wayElement
-  ways-of [] = no-more
-  ways-of (m ∷ ms) = and-also refl (ways-of ms)
+  ways-of = all-of (wayElement group strings) (λ m. refl)
 
   relations-of : (ms : List (List ℕ)) → Of (4 * group + 3) (map (relationElement group strings) ms)
   unfolding relationElement
-  relations-of [] = no-more
-  relations-of (m ∷ ms) = and-also refl (relations-of ms)
+  relations-of = all-of (relationElement group strings) (λ m. refl)
 
 -- ---- a group, and what is behind it
 

@@ -126,35 +126,28 @@ members-are strings (r ∷ roles) (i ∷ ids) [] = refl
 members-are strings (r ∷ roles) [] types = refl
 members-are strings [] ids types = refl
 
-roles-back : (roles : List (Option Text)) (ids types : List ℤ) → length roles ≡ length ids → length ids ≡ length types → map (λ (m : Member). m .role) (membersOf roles ids types) ≡ roles
-unfolding membersOf
-roles-back (r ∷ roles) (i ∷ ids) (t ∷ types) h k = ap (λ (l : List (Option Text)). r ∷ l) (roles-back roles ids types (omega arith) (omega arith))
-roles-back (r ∷ roles) (i ∷ ids) [] h k = absurd (omega arith)
-roles-back (r ∷ roles) [] types h k = absurd (omega arith)
-roles-back [] ids types h k = refl
+-- what is read off the members of three lists of one length
+record MembersBack (r : List (Option Text)) (i t : List ℤ) : Type 0 where
+  roles : map (λ (m : Member). m .role) (membersOf r i t) ≡ r
+  ids : map (λ (m : Member). numberOf (m .id)) (membersOf r i t) ≡ i
+  types : map (λ (m : Member). typeOf (m .id)) (membersOf r i t) ≡ t
 
-ids-back : (roles : List (Option Text)) (ids types : List ℤ) → length roles ≡ length ids → length ids ≡ length types → map (λ (m : Member). numberOf (m .id)) (membersOf roles ids types) ≡ ids
+members-back : (r : List (Option Text)) (i t : List ℤ) → length r ≡ length i → length i ≡ length t → MembersBack r i t
 unfolding membersOf
-ids-back (r ∷ roles) (i ∷ ids) (t ∷ types) h k =
-    let first = number-back t i in
-    let others = ids-back roles ids types (omega arith) (omega arith) in
-    (λ j. first j ∷ others j)
-ids-back (r ∷ roles) (i ∷ ids) [] h k = absurd (omega arith)
-ids-back (r ∷ roles) [] types h k = absurd (omega arith)
-ids-back [] [] types h k = refl
-ids-back [] (i ∷ ids) types h k = absurd (omega arith)
-
-types-back : (roles : List (Option Text)) (ids types : List ℤ) → length roles ≡ length ids → length ids ≡ length types → map (λ (m : Member). typeOf (m .id)) (membersOf roles ids types) ≡ types
-unfolding membersOf
-types-back (r ∷ roles) (i ∷ ids) (t ∷ types) h k =
-    let first = type-back t i in
-    let others = types-back roles ids types (omega arith) (omega arith) in
-    (λ j. first j ∷ others j)
-types-back (r ∷ roles) (i ∷ ids) [] h k = absurd (omega arith)
-types-back (r ∷ roles) [] types h k = absurd (omega arith)
-types-back [] [] [] h k = refl
-types-back [] [] (t ∷ types) h k = absurd (omega arith)
-types-back [] (i ∷ ids) types h k = absurd (omega arith)
+members-back (r ∷ roles) (i ∷ ids) (t ∷ types) h k =
+    let b = members-back roles ids types (omega arith) (omega arith) in
+    let number = number-back t i in
+    let type = type-back t i in
+    record {
+      roles = ap (λ (l : List (Option Text)). r ∷ l) (b .roles);
+      ids = (λ j. number j ∷ b .ids j);
+      types = (λ j. type j ∷ b .types j);
+    }
+members-back (r ∷ roles) (i ∷ ids) [] h k = absurd (omega arith)
+members-back (r ∷ roles) [] types h k = absurd (omega arith)
+members-back [] [] [] h k = record { roles = refl; ids = refl; types = refl }
+members-back [] [] (t ∷ types) h k = absurd (omega arith)
+members-back [] (i ∷ ids) types h k = absurd (omega arith)
 
 -- ---- a relation
 
@@ -211,9 +204,11 @@ module _ (group : ℕ) where
         let f1 : length roles-t ≡ length sums-t = map-length (roleText strings′) (roleNumbers t) ∙ ht .ids ∙ sym (sums-length 64 (pos 0) (memberIds t)) in
         let f2 : length sums-t ≡ length (memberTypes t) = sums-length 64 (pos 0) (memberIds t) ∙ ht .types in
         let same = ap (λ (e : Element). e .members) q in
-        let roles = sym (roles-back roles-s sums-s (memberTypes s) e1 e2) ∙ ap (map (λ (m : Member). m .role)) same ∙ roles-back roles-t sums-t (memberTypes t) f1 f2 in
-        let summed = sym (ids-back roles-s sums-s (memberTypes s) e1 e2) ∙ ap (map (λ (m : Member). numberOf (m .id))) same ∙ ids-back roles-t sums-t (memberTypes t) f1 f2 in
-        let types = sym (types-back roles-s sums-s (memberTypes s) e1 e2) ∙ ap (map (λ (m : Member). typeOf (m .id))) same ∙ types-back roles-t sums-t (memberTypes t) f1 f2 in
+        let b = members-back roles-s sums-s (memberTypes s) e1 e2 in
+        let c = members-back roles-t sums-t (memberTypes t) f1 f2 in
+        let roles = sym (b .roles) ∙ ap (map (λ (m : Member). m .role)) same ∙ c .roles in
+        let summed = sym (b .ids) ∙ ap (map (λ (m : Member). numberOf (m .id))) same ∙ c .ids in
+        let types = sym (b .types) ∙ ap (map (λ (m : Member). typeOf (m .id))) same ∙ c .types in
         let ids = sums-determine 64 (pos 0) _ _ (zigzag-values 64 (columnIn s (slotsOf relation s) 9)) (zigzag-values 64 (columnIn t (slotsOf relation t) 9)) summed in
         (λ i. record { id = q i .id; tags = q i .tags; members = record { roles = roles i; ids = ids i; types = types i } })
 
