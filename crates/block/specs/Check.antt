@@ -8,10 +8,10 @@ use Rattle.protobuf.specs.declared.refusal.Refusal.the-variants.{Counts}
 use Rattle.protobuf.specs.Read.{choose}
 use Rattle.protobuf.specs.Message.{message}
 use Rattle.protobuf.specs.Column.{Column}
-use Rattle.wire.specs.Outcome.{Outcome, kept, refused, onward}
-use Rattle.wire.specs.View.{noPart, Schema, Slots, view}
-use Rattle.wire.specs.Schema.{node, way, relation, denseNodes, denseInfo, info}
-use Rattle.wire.specs.Group.{denseFrom}
+use Rattle.views.specs.Outcome.{Outcome, kept, refused, onward}
+use Rattle.views.specs.View.{noPart, Schema, Slots, view}
+use Rattle.views.specs.Schema.{node, way, relation, denseNodes, denseInfo, info}
+use Rattle.views.specs.Group.{denseFrom}
 use Rattle.block.specs.Columns.{bytesIn, messagesOf, columnIn, countOf}
 use Rattle.block.specs.Tags.{densePairs}
 

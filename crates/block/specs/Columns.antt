@@ -7,10 +7,10 @@ use Rattle.protobuf.specs.Read.{choose}
 use Rattle.protobuf.specs.Stream.{end, more}
 use Rattle.protobuf.specs.Message.{Message, message}
 use Rattle.protobuf.specs.Column.{ended, cut, Column, column}
-use Rattle.wire.specs.declared.part.Part.{Part}
-use Rattle.wire.specs.Outcome.{Outcome, kept, refused, each}
-use Rattle.wire.specs.View.{partBy, Slots}
-use Rattle.wire.specs.Tables.{isPart}
+use Rattle.views.specs.declared.part.Part.{Part}
+use Rattle.views.specs.Outcome.{Outcome, kept, refused, each}
+use Rattle.views.specs.View.{partBy, Slots}
+use Rattle.views.specs.Group.{isPart}
 
 -- the bytes of a part of s; none where it is not present, since its length is 0 then
 abbrev pub bytesIn : List ℕ → Part → List ℕ

@@ -6,7 +6,7 @@ use mathlib.Core.Option.{Option}
 use lib.IntN.{ℤ}
 use Rattle.protobuf.specs.Signed.{twos, zigzag}
 use Rattle.protobuf.specs.Column.{int32s, sint64s}
-use Rattle.wire.specs.Schema.{primitiveBlock, node, way, relation}
+use Rattle.views.specs.Schema.{primitiveBlock, node, way, relation}
 use Rattle.wire.specs.Block.{blockFields}
 use Rattle.block.specs.Columns.{messagesOf, columnIn}
 use Rattle.block.specs.Strings.{Text, Tag, shown, roleText}

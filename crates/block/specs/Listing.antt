@@ -7,7 +7,7 @@ use lib.ListN.{length}
 use lib.IntN.{ℤ, pos, negsuc}
 use Rattle.protobuf.specs.Signed.{twos, zigzag}
 use Rattle.protobuf.specs.Column.{int32s, sint64s, sums}
-use Rattle.wire.specs.Schema.{primitiveBlock, node, way, relation}
+use Rattle.views.specs.Schema.{primitiveBlock, node, way, relation}
 use Rattle.wire.specs.Block.{blockFields}
 use Rattle.block.specs.Columns.{messagesOf, columnIn}
 use Rattle.block.specs.Tags.{Pair}

@@ -8,11 +8,11 @@ use Rattle.protobuf.specs.Read.{choose}
 use Rattle.protobuf.specs.Message.{message}
 use Rattle.protobuf.specs.Stream.{end, more}
 use Rattle.protobuf.specs.Column.{Column, uint32s, sint64s}
-use Rattle.wire.specs.declared.part.Part.{Part}
-use Rattle.wire.specs.Outcome.{Outcome, kept, refused}
-use Rattle.wire.specs.View.{noPart, Schema, Slots, empty, view}
-use Rattle.wire.specs.Schema.{primitiveBlock, denseNodes}
-use Rattle.wire.specs.Group.{denseFrom}
+use Rattle.views.specs.declared.part.Part.{Part}
+use Rattle.views.specs.Outcome.{Outcome, kept, refused}
+use Rattle.views.specs.View.{noPart, Schema, Slots, empty, view}
+use Rattle.views.specs.Schema.{primitiveBlock, denseNodes}
+use Rattle.views.specs.Group.{denseFrom}
 use Rattle.block.specs.Columns.{bytesIn, messagesOf, columnIn}
 use Rattle.block.specs.Tags.{Pair, densePairs}
 use Rattle.block.specs.Strings.{Text, Tag, shown}

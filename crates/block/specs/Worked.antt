@@ -17,11 +17,11 @@ use Rattle.protobuf.specs.Stream.{unrolled, mapped}
 use Rattle.protobuf.specs.Message.{fieldAt, messageFrom}
 use Rattle.protobuf.specs.Signed.{signed, twos, unzigzag, zigzag, residue, wrap}
 use Rattle.protobuf.specs.Column.{valueAt, columnFrom, sumsFrom}
-use Rattle.wire.specs.Outcome.{Outcome, kept, onward, each}
+use Rattle.views.specs.Outcome.{Outcome, kept, onward, each}
 use Rattle.wire.specs.Tables.{entries}
 use Rattle.wire.specs.Scan.{tablesStage, stringsStage, fieldsStage, scanned}
-use Rattle.wire.specs.View.{columnPart, infoPart, put, store, viewFrom, view}
-use Rattle.wire.specs.Group.{denseFrom}
+use Rattle.views.specs.View.{columnPart, infoPart, put, store, viewFrom, view}
+use Rattle.views.specs.Group.{denseFrom}
 use Rattle.block.specs.Columns.{partsOf, messagesOf, columnIn, countOf}
 use Rattle.block.specs.Tags.{takePairs, densePairs}
 use Rattle.block.specs.Check.{passed, all, sameCounts, sameThree, elementBy, checkDense, checkGroup, checked}

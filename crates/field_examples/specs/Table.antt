@@ -15,11 +15,11 @@ use Rattle.protobuf.specs.Stream.{end, more, unrolled, mapped}
 use Rattle.protobuf.specs.Message.{complete, cut, spoilt, Message, message, fieldAt, messageFrom}
 use Rattle.protobuf.specs.Signed.{signed, twos, unzigzag, zigzag, residue, wrap}
 use Rattle.wire.specs.declared.record.WireBlock.{WireBlock}
-use Rattle.wire.specs.Outcome.{Outcome, kept, refused, onward, each}
-use Rattle.wire.specs.View.{noPart, columnPart, infoPart, put, store, viewFrom, view}
-use Rattle.wire.specs.Schema.{way, info}
-use Rattle.wire.specs.Info.{infoFields, infoOf}
-use Rattle.wire.specs.Group.{denseFrom}
+use Rattle.views.specs.Outcome.{Outcome, kept, refused, onward, each}
+use Rattle.views.specs.View.{noPart, columnPart, infoPart, put, store, viewFrom, view}
+use Rattle.views.specs.Schema.{way, info}
+use Rattle.views.specs.Info.{infoFields, infoOf}
+use Rattle.views.specs.Group.{denseFrom}
 use Rattle.wire.specs.Tables.{entries}
 use Rattle.wire.specs.Scan.{Scanned, tablesStage, stringsStage, fieldsStage, scanned}
 use Rattle.block.specs.Columns.{partsOf, messagesOf, columnIn, countOf}

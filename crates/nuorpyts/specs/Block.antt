@@ -7,19 +7,19 @@ use Rattle.protobuf.specs.declared.refusal.Refusal.the-variants.{Outside}
 use Rattle.protobuf.specs.Read.{choose}
 use Rattle.protobuf.specs.Refusal.{number}
 use Rattle.protobuf.specs.Signed.{twos}
-use Rattle.wire.specs.declared.part.Part.{Part}
+use Rattle.views.specs.declared.part.Part.{Part}
 use Rattle.wire.specs.declared.record.WireBlock.{WireBlock}
 use Rattle.wire.specs.declared.lookup.Got.{Got}
 use Rattle.wire.specs.declared.lookup.Got.the-variants as got
 use Rattle.wire.specs.declared.lookup.GroupRange.{GroupRange}
 use Rattle.wire.specs.declared.lookup.GroupRange.the-variants as range
-use Rattle.wire.specs.declared.classify.BlockType.{BlockType}
-use Rattle.wire.specs.declared.classify.BlockType.the-variants.{Empty, Nodes, DenseNodes, Ways, Relations, Mixed}
-use Rattle.wire.specs.Outcome.{Outcome, kept, refused, onward}
-use Rattle.wire.specs.View.{isInt32}
+use Rattle.views.specs.declared.classify.BlockType.{BlockType}
+use Rattle.views.specs.declared.classify.BlockType.the-variants.{Empty, Nodes, DenseNodes, Ways, Relations, Mixed}
+use Rattle.views.specs.Outcome.{Outcome, kept, refused, onward}
+use Rattle.views.specs.View.{isInt32}
 use Rattle.wire.specs.Tables.{written}
 use Rattle.wire.specs.Lookup.{getAt, groupAt}
-use Rattle.wire.specs.Classify.{blockType}
+use Rattle.views.specs.Classify.{blockType}
 use Rattle.nuorpyts.specs.declared.block.RecordIn.{RecordIn}
 use Rattle.nuorpyts.specs.declared.block.RecordIn.the-variants as read
 use Rattle.nuorpyts.specs.Words.{words, wordAt, signedWord}

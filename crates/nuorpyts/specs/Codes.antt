@@ -7,7 +7,7 @@ use lib.ListN.{length}
 use lib.Dec.{leb}
 use Rattle.protobuf.specs.Read.{choose}
 use Rattle.protobuf.specs.Refusal.{number}
-use Rattle.wire.specs.Outcome.{Outcome, kept, refused}
+use Rattle.views.specs.Outcome.{Outcome, kept, refused}
 use Rattle.wire.specs.Tables.{written}
 use Rattle.nuorpyts.specs.Words.{words}
 

@@ -7,21 +7,21 @@ use lib.Dec.{leb, ltb}
 use Rattle.protobuf.specs.declared.refusal.Refusal.the-variants.{Outside}
 use Rattle.protobuf.specs.Read.{choose}
 use Rattle.protobuf.specs.Refusal.{number}
-use Rattle.wire.specs.declared.part.Part.{Part}
-use Rattle.wire.specs.declared.node.WireNode.{WireNode}
-use Rattle.wire.specs.declared.way.WireWay.{WireWay}
-use Rattle.wire.specs.declared.relation.WireRelation.{WireRelation}
-use Rattle.wire.specs.declared.dense_nodes.WireDenseNodes.{WireDenseNodes}
-use Rattle.wire.specs.declared.dense_info.WireDenseInfo.{WireDenseInfo}
-use Rattle.wire.specs.declared.info.Number32.{Number32}
-use Rattle.wire.specs.declared.info.Number64.{Number64}
-use Rattle.wire.specs.declared.info.Flag.{Flag}
-use Rattle.wire.specs.declared.info.WireInfo.{WireInfo}
-use Rattle.wire.specs.declared.group.WireMessageIter.{WireMessageIter}
-use Rattle.wire.specs.declared.group.MessageStep.{MessageStep}
-use Rattle.wire.specs.declared.group.MessageStep.the-variants as step
+use Rattle.views.specs.declared.part.Part.{Part}
+use Rattle.views.specs.declared.node.WireNode.{WireNode}
+use Rattle.views.specs.declared.way.WireWay.{WireWay}
+use Rattle.views.specs.declared.relation.WireRelation.{WireRelation}
+use Rattle.views.specs.declared.dense_nodes.WireDenseNodes.{WireDenseNodes}
+use Rattle.views.specs.declared.dense_info.WireDenseInfo.{WireDenseInfo}
+use Rattle.views.specs.declared.info.Number32.{Number32}
+use Rattle.views.specs.declared.info.Number64.{Number64}
+use Rattle.views.specs.declared.info.Flag.{Flag}
+use Rattle.views.specs.declared.info.WireInfo.{WireInfo}
+use Rattle.views.specs.declared.group.WireMessageIter.{WireMessageIter}
+use Rattle.views.specs.declared.group.MessageStep.{MessageStep}
+use Rattle.views.specs.declared.group.MessageStep.the-variants as step
 use Rattle.wire.specs.Tables.{written}
-use Rattle.wire.specs.Group.{messageStep}
+use Rattle.views.specs.Group.{messageStep}
 use Rattle.nuorpyts.specs.Words.{words, wordAt, flag, signedWord}
 use Rattle.nuorpyts.specs.Codes.{endedCode}
 

@@ -2,5 +2,5 @@
 // that the caller lends, 8 little-endian bytes a number (include/nuorpyts.h).
 pub mod block;
 mod codes;
-pub mod views;
+pub mod messages;
 mod words;

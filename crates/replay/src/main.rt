@@ -4,9 +4,9 @@
 mod block;
 mod leaf;
 mod line;
+mod messages;
 mod tally;
 mod text;
-mod views;
 
 ghost use mathlib.Core.Path.{_≡_};
 ghost use lib.ListN.{length};
@@ -49,6 +49,12 @@ use line::kind_of;
 use line::numbers_of;
 use line::plus;
 use line::read_numbers;
+use messages::ask_dense;
+use messages::ask_dense_info;
+use messages::ask_info;
+use messages::ask_node;
+use messages::ask_relation;
+use messages::ask_way;
 use tally::COUNTS;
 use tally::DIFFERENT;
 use tally::GET_AT_COUNT;
@@ -71,12 +77,6 @@ use text::cut;
 use text::print;
 use text::print_said;
 use text::whole;
-use views::ask_dense;
-use views::ask_dense_info;
-use views::ask_info;
-use views::ask_node;
-use views::ask_relation;
-use views::ask_way;
 
 // The most bytes of the list.
 const LIST: usize = 262144;

@@ -6,7 +6,7 @@ use protobuf::refusal::number;
 use protobuf::signed::bits_i64;
 use std::num::wrapping_sub_u64;
 use std::num::wrapping_sub_usize;
-use wire::part::Part;
+use views::part::Part;
 
 // The most bytes of an answer's text.
 pub(crate) const ROOM: usize = 2048;

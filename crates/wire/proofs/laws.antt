@@ -1,13 +1,6 @@
 -- One file of laws for each file of definitions.
-pub mod Outcome
-pub mod View
-pub mod Within
-pub mod Parse
-pub mod Classify
 pub mod Tables
 pub mod Filling
-pub mod Info
 pub mod Counting
 pub mod Scan
-pub mod Group
 pub mod Lookup

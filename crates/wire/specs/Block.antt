@@ -4,8 +4,8 @@ use Rattle.protobuf.specs.Read.{choose}
 use Rattle.wire.specs.declared.primitive_block.BlockFields.{BlockFields}
 use Rattle.wire.specs.declared.primitive_block.BlockStored.{BlockStored}
 use Rattle.wire.specs.declared.primitive_block.BlockStored.the-variants as stored
-use Rattle.wire.specs.Outcome.{Outcome, kept, refused}
-use Rattle.wire.specs.View.{Slot, Slots}
+use Rattle.views.specs.Outcome.{Outcome, kept, refused}
+use Rattle.views.specs.View.{Slot, Slots}
 
 -- the number of a field, or its default
 abbrev pub orElse : ℕ → Slot → ℕ

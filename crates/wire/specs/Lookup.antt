@@ -6,13 +6,13 @@ use lib.ListN.{length, take, drop}
 use lib.Dec.{leb, ltb}
 use Rattle.protobuf.specs.declared.refusal.Refusal.the-variants.{Outside}
 use Rattle.protobuf.specs.Read.{choose}
-use Rattle.wire.specs.declared.part.Part.{Part}
+use Rattle.views.specs.declared.part.Part.{Part}
 use Rattle.wire.specs.declared.record.WireBlock.{WireBlock}
 use Rattle.wire.specs.declared.lookup.Got.{Got}
 use Rattle.wire.specs.declared.lookup.Got.the-variants as got
 use Rattle.wire.specs.declared.lookup.GroupRange.{GroupRange}
 use Rattle.wire.specs.declared.lookup.GroupRange.the-variants as range
-use Rattle.wire.specs.View.{partBy}
+use Rattle.views.specs.View.{partBy}
 use Rattle.wire.specs.Tables.{number32}
 
 -- the part that the entry at a place of a table names

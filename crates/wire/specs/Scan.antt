@@ -15,9 +15,9 @@ use Rattle.wire.specs.declared.scan.Count.{Count}
 use Rattle.wire.specs.declared.scan.Count.the-variants as count
 use Rattle.wire.specs.declared.scan.BlockScan.{BlockScan}
 use Rattle.wire.specs.declared.scan.BlockScan.the-variants as scan
-use Rattle.wire.specs.Outcome.{Outcome, kept, refused, onward}
-use Rattle.wire.specs.View.{Slots, view}
-use Rattle.wire.specs.Schema.{primitiveBlock, stringTable}
+use Rattle.views.specs.Outcome.{Outcome, kept, refused, onward}
+use Rattle.views.specs.View.{Slots, view}
+use Rattle.views.specs.Schema.{primitiveBlock, stringTable}
 use Rattle.wire.specs.Block.{blockFields}
 use Rattle.wire.specs.Tables.{entries, written}
 

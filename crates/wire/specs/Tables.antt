@@ -1,23 +1,17 @@
 -- The tables behind a block: an entry for each string of the chosen string table and then for each group, offset and length as 4
 -- little-endian bytes each. An offset counts from the block's start.
-use Prim.Native.Nat.{ℕ, _+_, _*_, _/_, _%_, _≤_}
+use Prim.Native.Nat.{ℕ, _+_, _/_, _%_, _≤_}
 use mathlib.Core.Path.{_≡_}
 use mathlib.Core.List.{List, [], _++_}
-use mathlib.Core.Bool.{Bool, false}
 use lib.ListN.{length, take, drop}
-use lib.Dec.{eqb, leb, ltb}
-use Rattle.protobuf.specs.declared.refusal.Refusal.the-variants.{Outside}
 use Rattle.protobuf.specs.Read.{choose}
 use Rattle.protobuf.specs.Little.{little, bytes}
 use Rattle.protobuf.specs.Stream.{end, more}
-use Rattle.protobuf.specs.Message.{Field, Message, message}
+use Rattle.protobuf.specs.Message.{Message, message}
+use Rattle.views.specs.Group.{isPart}
 
 abbrev pub entry : ℕ → ℕ → List ℕ
 entry start len = bytes 4 start ++ bytes 4 len
-
--- a length-delimited occurrence of field k
-abbrev pub isPart : ℕ → Field → Bool
-isPart k f = choose (eqb (f .tag .field) k) (eqb (f .tag .wire) 2) false
 
 -- the entries of the length-delimited occurrences of field k, in a message that begins at base
 unfoldable pub entries : ℕ → ℕ → Message → List ℕ

@@ -5,9 +5,9 @@ ghost use lib.Dec.{leb};
 ghost use lib.ListN.{length};
 ghost use Rattle.wire.specs.Tables;
 ghost use Rattle.wire.specs.Lookup.{entryAt, getAt, isRecordInside, groupAt, bytesOf};
-use crate::part::Part;
 use crate::record::WireBlock;
 use protobuf::refusal::Refusal;
+use views::part::Part;
 
 pub enum Got {
     Text(Part),

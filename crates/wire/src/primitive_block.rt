@@ -2,11 +2,10 @@
 ghost use mathlib.Core.Path.{_≡_};
 ghost use Prim.Native.Nat.{_+_, _^_, _≤_, _<_};
 ghost use Rattle.protobuf.specs.Answers.{fieldBy};
-ghost use Rattle.wire.specs.Outcome.{each};
-ghost use Rattle.wire.specs.View.{Slots, store, view, isInt32};
-ghost use Rattle.wire.specs.Schema.{primitiveBlock};
+ghost use Rattle.views.specs.Outcome.{each};
+ghost use Rattle.views.specs.View.{Slots, store, view, isInt32};
+ghost use Rattle.views.specs.Schema.{primitiveBlock};
 ghost use Rattle.wire.specs.Block.{blockFields, keptBlock, groupsOf};
-use crate::part::Part;
 use crate::schema::primitive_block::DATE_GRANULARITY;
 use crate::schema::primitive_block::GRANULARITY;
 use crate::schema::primitive_block::GROUP;
@@ -16,6 +15,7 @@ use crate::schema::primitive_block::STRING_TABLE;
 use protobuf::message::Field;
 use protobuf::message::next_field;
 use protobuf::refusal::Refusal;
+use views::part::Part;
 
 // The block's slots, numbers as read, with the defaults of a field that is missing.
 pub struct BlockFields {

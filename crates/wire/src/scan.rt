@@ -1,8 +1,8 @@
 // The scan of a block: its own fields and its chosen string table are read whole, and the tables are written behind it.
 ghost use mathlib.Core.Path.{_≡_};
-ghost use Rattle.wire.specs.Outcome.{each};
-ghost use Rattle.wire.specs.View.{view};
-ghost use Rattle.wire.specs.Schema.{stringTable};
+ghost use Rattle.views.specs.Outcome.{each};
+ghost use Rattle.views.specs.View.{view};
+ghost use Rattle.views.specs.Schema.{stringTable};
 ghost use Prim.Native.Nat.{_+_, _*_, _^_, _≤_, _<_};
 ghost use lib.Dec.{leb};
 ghost use lib.ListN.{length, take};

@@ -15,11 +15,11 @@ use Rattle.protobuf.specs.Read.{choose}
 use Rattle.protobuf.specs.Tag.{tagAt}
 use Rattle.protobuf.specs.Stream.{end, more, unrolled, mapped}
 use Rattle.protobuf.specs.Column.{ended, cut, Column, valueAt, columnFrom, int32s, sint64s}
-use Rattle.wire.specs.declared.part.Part.{Part}
-use Rattle.wire.specs.Outcome.{Outcome, kept, refused, onward, each}
-use Rattle.wire.specs.View.{noPart, Slots, empty, viewFrom, view}
-use Rattle.wire.specs.Schema.{relation, denseNodes, denseInfo, info}
-use Rattle.wire.specs.Group.{denseFrom}
+use Rattle.views.specs.declared.part.Part.{Part}
+use Rattle.views.specs.Outcome.{Outcome, kept, refused, onward, each}
+use Rattle.views.specs.View.{noPart, Slots, empty, viewFrom, view}
+use Rattle.views.specs.Schema.{relation, denseNodes, denseInfo, info}
+use Rattle.views.specs.Group.{denseFrom}
 use Rattle.protobuf.specs.Message.{message, fieldAt, messageFrom}
 use Rattle.block.specs.Columns.{bytesIn, messagesOf, columnIn, countOf}
 use Rattle.block.specs.Tags.{Pair, NodePairs, takePairs, densePairs}

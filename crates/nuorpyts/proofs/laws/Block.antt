@@ -16,11 +16,11 @@ use Rattle.wire.specs.declared.record.WireBlock.{WireBlock}
 use Rattle.wire.specs.declared.lookup.Got.{Got}
 use Rattle.wire.specs.declared.lookup.Got.the-variants as got
 use Rattle.wire.specs.declared.lookup.GroupRange.{GroupRange}
-use Rattle.wire.specs.declared.classify.BlockType.{BlockType}
-use Rattle.wire.specs.Outcome.{kept, refused, onward}
+use Rattle.views.specs.declared.classify.BlockType.{BlockType}
+use Rattle.views.specs.Outcome.{kept, refused, onward}
 use Rattle.wire.specs.Lookup.{getAt, groupAt}
-use Rattle.wire.specs.Classify.{blockType}
-use Rattle.wire.specs.View.{isInt32}
+use Rattle.views.specs.Classify.{blockType}
+use Rattle.views.specs.View.{isInt32}
 use Rattle.wire.specs.Tables.{written}
 use Rattle.wire.proofs.laws.Tables.{written-length}
 use Rattle.nuorpyts.specs.Words.{words, wordAt, signedWord}

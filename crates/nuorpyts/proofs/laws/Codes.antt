@@ -8,7 +8,7 @@ use borrow.Author.Tests.{le-leb, lt-leb}
 use Rattle.protobuf.specs.declared.refusal.Refusal.{Refusal}
 use Rattle.protobuf.specs.Read.{choose}
 use Rattle.protobuf.specs.Refusal.{number}
-use Rattle.wire.specs.Outcome.{Outcome, kept, refused}
+use Rattle.views.specs.Outcome.{Outcome, kept, refused}
 use Rattle.wire.specs.Tables.{written}
 use Rattle.nuorpyts.specs.Words.{words}
 use Rattle.nuorpyts.specs.Codes.{answerCode, answerAfter}

@@ -10,11 +10,11 @@ use Rattle.protobuf.specs.declared.refusal.Refusal.{Refusal}
 use Rattle.protobuf.specs.declared.refusal.Refusal.the-variants.{Outside}
 use Rattle.protobuf.specs.Read.{choose}
 use Rattle.protobuf.specs.Refusal.{number}
-use Rattle.wire.specs.declared.part.Part.{Part}
-use Rattle.wire.specs.declared.group.WireMessageIter.{WireMessageIter}
-use Rattle.wire.specs.declared.group.MessageStep.{MessageStep}
-use Rattle.wire.specs.declared.group.MessageStep.the-variants as step
-use Rattle.wire.specs.Group.{messageStep}
+use Rattle.views.specs.declared.part.Part.{Part}
+use Rattle.views.specs.declared.group.WireMessageIter.{WireMessageIter}
+use Rattle.views.specs.declared.group.MessageStep.{MessageStep}
+use Rattle.views.specs.declared.group.MessageStep.the-variants as step
+use Rattle.views.specs.Group.{messageStep}
 use Rattle.wire.specs.Tables.{written}
 use Rattle.nuorpyts.specs.Words.{words, wordAt}
 use Rattle.nuorpyts.specs.Codes.{endedCode}

@@ -17,7 +17,7 @@ use Rattle.protobuf.specs.Little.{little, bytes}
 use Rattle.protobuf.proofs.laws.Little.{bytes-length, little-bytes}
 use Rattle.protobuf.specs.Signed.{signed, twos, residue}
 use Rattle.protobuf.proofs.laws.Signed.{InRange, residue-signed, sub-below}
-use Rattle.wire.specs.View.{isInt32}
+use Rattle.views.specs.View.{isInt32}
 use Rattle.protobuf.proofs.laws.Machine.{passed}
 use Rattle.wire.specs.Tables.{written}
 use Rattle.wire.proofs.laws.Tables.{written-twice}

@@ -12,11 +12,12 @@ use Rattle.protobuf.specs.Stream.{end, more}
 use Rattle.protobuf.specs.Message.{Field, complete, cut, spoilt, Message, message}
 use Rattle.protobuf.specs.Little.{bytes}
 use Rattle.protobuf.proofs.laws.Read.{choose-elim}
-use Rattle.wire.specs.Outcome.{Outcome, kept, refused, onward, each}
-use Rattle.wire.specs.View.{Kind, repeated, Row, Schema, takes, Slot, slotBy, partBy, Slots, empty, with, put, store, view, viewFrom}
-use Rattle.wire.specs.Schema.{row}
-use Rattle.wire.specs.Tables.{entry, isPart, entries}
-use Rattle.wire.proofs.laws.Outcome.{If, so, not, if-kept, if-each, if-onward, if-any, if-so}
+use Rattle.views.specs.Outcome.{Outcome, kept, refused, onward, each}
+use Rattle.views.specs.View.{Kind, repeated, Row, Schema, takes, Slot, slotBy, partBy, Slots, empty, with, put, store, view, viewFrom}
+use Rattle.views.specs.Schema.{row}
+use Rattle.views.specs.Group.{isPart}
+use Rattle.wire.specs.Tables.{entry, entries}
+use Rattle.views.proofs.laws.Outcome.{If, so, not, if-kept, if-each, if-onward, if-any, if-so}
 
 -- how many length-delimited occurrences of field k there are
 parts : ℕ → Message → ℕ

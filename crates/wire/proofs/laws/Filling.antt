@@ -15,8 +15,9 @@ use Rattle.protobuf.specs.Message.{Field, MessageEnd, message, messageFrom, fie
 use Rattle.protobuf.specs.Answers.{fieldBy}
 use Rattle.protobuf.specs.Little.{bytes}
 use Rattle.protobuf.proofs.laws.Message.{message-from, fields-forward, field-within}
-use Rattle.wire.specs.Tables.{entry, isPart, entries, written, Room}
-use Rattle.wire.proofs.laws.Parse.{lent, lent-is}
+use Rattle.views.specs.Group.{isPart}
+use Rattle.wire.specs.Tables.{entry, entries, written, Room}
+use Rattle.views.proofs.laws.Parse.{lent, lent-is}
 use Rattle.wire.proofs.laws.Tables.{written-none, written-length, written-before, written-more, tail-back}
 
 -- the message

@@ -10,7 +10,7 @@ use borrow.Author.Tests.{leb-true, leb-false, le-leb, lt-leb, lt-ltb, le-ltb, no
 use Rattle.protobuf.specs.declared.refusal.Refusal.the-variants.{Outside}
 use Rattle.protobuf.specs.Read.{choose}
 use Rattle.protobuf.proofs.laws.Test.{same-test}
-use Rattle.wire.specs.declared.part.Part.{Part}
+use Rattle.views.specs.declared.part.Part.{Part}
 use Rattle.wire.specs.declared.record.WireBlock.{WireBlock}
 use Rattle.wire.specs.declared.lookup.Got.the-variants as got
 use Rattle.wire.specs.declared.lookup.GroupRange.the-variants as range

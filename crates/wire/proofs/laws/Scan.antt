@@ -13,17 +13,17 @@ use Rattle.protobuf.specs.declared.refusal.Refusal.{Refusal}
 use Rattle.protobuf.specs.declared.refusal.Refusal.the-variants.{BlockTooLong, NoRoom, Outside}
 use Rattle.protobuf.specs.Message.{message}
 use Rattle.protobuf.proofs.laws.Part.{drop-take}
-use Rattle.wire.specs.declared.part.Part.{Part}
+use Rattle.views.specs.declared.part.Part.{Part}
 use Rattle.wire.specs.declared.primitive_block.BlockFields.{BlockFields}
-use Rattle.wire.specs.Outcome.{Outcome, kept, refused, onward, each}
-use Rattle.wire.specs.View.{Slots, view}
-use Rattle.wire.specs.Schema.{primitiveBlock, stringTable}
+use Rattle.views.specs.Outcome.{Outcome, kept, refused, onward, each}
+use Rattle.views.specs.View.{Slots, view}
+use Rattle.views.specs.Schema.{primitiveBlock, stringTable}
 use Rattle.wire.specs.Block.{blockFields}
 use Rattle.wire.specs.Tables.{entries, written, Room}
 use Rattle.wire.specs.Scan.{limit, stringBytes, stringCount, tables, recordBy, Scanned, tablesStage, stringsStage, fieldsStage, scanned, FieldsRead, StringsRead}
-use Rattle.wire.proofs.laws.Outcome.{each-kept, each-refused}
-use Rattle.wire.proofs.laws.Parse.{lent, lent-is}
-use Rattle.wire.proofs.laws.Within.{parts-within}
+use Rattle.views.proofs.laws.Outcome.{each-kept, each-refused}
+use Rattle.views.proofs.laws.Parse.{lent, lent-is}
+use Rattle.views.proofs.laws.Within.{parts-within}
 use Rattle.wire.proofs.laws.Counting.{Counts, here, there, none, past, table-length}
 use Rattle.wire.proofs.laws.Tables.{written-length, written-before, written-twice}
 

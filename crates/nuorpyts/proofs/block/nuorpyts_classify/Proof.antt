@@ -3,8 +3,8 @@ use native.Mathlib.Omega.{arith}
 use mathlib.Core.Path.{refl, ap, _∙_}
 use mathlib.Core.List.{[], _∷_}
 use Rattle.wire.specs.Tables.{written}
-use Rattle.wire.specs.Classify.{blockType}
-use Rattle.wire.proofs.laws.Parse.{lent-is}
+use Rattle.views.specs.Classify.{blockType}
+use Rattle.views.proofs.laws.Parse.{lent-is}
 use Rattle.nuorpyts.specs.Words.{words}
 use Rattle.nuorpyts.specs.Block.{kindWords}
 use Rattle.nuorpyts.proofs.laws.Codes.{too-short, answer-kept, answer-refused}

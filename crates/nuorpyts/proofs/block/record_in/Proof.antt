@@ -3,7 +3,7 @@ use mathlib.Core.Path.{ap, _∙_}
 use mir.Syntax.{w32, w64}
 use Rattle.protobuf.specs.Signed.{twos}
 use Rattle.protobuf.proofs.laws.Machine.{returned}
-use Rattle.wire.specs.Outcome.{kept}
+use Rattle.views.specs.Outcome.{kept}
 use Rattle.wire.proofs.laws.Lookup.{refuted, confirmed}
 use Rattle.nuorpyts.proofs.laws.Block.{record-short, no-granularity, no-dategranularity, record-kept}
 use borrow.Author.Needs.{needs}

@@ -7,7 +7,7 @@ use denote.Ref.{now}
 use borrow.Author.Tests.{leb-true, not-true, not-false}
 use Rattle.wire.specs.Lookup.{bytesOf}
 use Rattle.wire.proofs.laws.Lookup.{refuted, confirmed}
-use Rattle.wire.proofs.laws.Parse.{lent-is}
+use Rattle.views.proofs.laws.Parse.{lent-is}
 use Rattle.wire.proofs.lookup.bytes_of.Statement.{statement}
 use Rattle.wire.proofs.lookup.bytes_of.Tie as tie
 

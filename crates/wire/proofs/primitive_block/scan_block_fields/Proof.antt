@@ -7,9 +7,9 @@ use lib.ListN.{length}
 use mathlib.Core.Path.{refl, sym, ap}
 use Rattle.protobuf.specs.Answers.{fieldOf}
 use Rattle.protobuf.proofs.laws.Read.{says}
-use Rattle.wire.specs.Schema.{primitiveBlock}
+use Rattle.views.specs.Schema.{primitiveBlock}
 use Rattle.wire.specs.Block.{blockFields, keptBlock, groupsOf}
-use Rattle.wire.proofs.laws.View.{Viewed, begins, completed, cut-off, spoilt-off, not-stored, stored, further, falls}
+use Rattle.views.proofs.laws.View.{Viewed, begins, completed, cut-off, spoilt-off, not-stored, stored, further, falls}
 use Rattle.wire.proofs.primitive_block.scan_block_fields.Statement.{statement}
 use Rattle.wire.proofs.primitive_block.scan_block_fields.Tie as tie
 

@@ -1,10 +1,10 @@
 -- `store_block`'s match is the schema of PrimitiveBlock, row by row.
 use mathlib.Core.Path.{refl, sym, _∙_}
-use Rattle.wire.specs.Outcome.{each}
-use Rattle.wire.specs.View.{store, put}
-use Rattle.wire.specs.Schema.{primitiveBlock}
+use Rattle.views.specs.Outcome.{each}
+use Rattle.views.specs.View.{store, put}
+use Rattle.views.specs.Schema.{primitiveBlock}
 use Rattle.wire.specs.Block.{blockFields}
-use Rattle.wire.proofs.laws.View.{int32-kept, int32-refused, passed-over}
+use Rattle.views.proofs.laws.View.{int32-kept, int32-refused, passed-over}
 use borrow.Author.Needs.{needs}
 use Rattle.wire.proofs.primitive_block.store_block.Statement.{statement}
 use Rattle.wire.proofs.primitive_block.store_block.Tie as tie

@@ -7,11 +7,11 @@ use lib.ListN.{length}
 use mathlib.Core.Path.{refl, sym, ap, _∙_}
 use Rattle.protobuf.specs.Answers.{fieldOf}
 use Rattle.protobuf.proofs.laws.Read.{says}
-use Rattle.wire.specs.Outcome.{kept, each}
-use Rattle.wire.specs.View.{store, put}
-use Rattle.wire.specs.Schema.{stringTable}
+use Rattle.views.specs.Outcome.{kept, each}
+use Rattle.views.specs.View.{store, put}
+use Rattle.views.specs.Schema.{stringTable}
 use Rattle.wire.specs.Scan.{stringCount}
-use Rattle.wire.proofs.laws.View.{Viewed, begins, completed, cut-off, spoilt-off, stored, further, falls, passed-over}
+use Rattle.views.proofs.laws.View.{Viewed, begins, completed, cut-off, spoilt-off, stored, further, falls, passed-over}
 use Rattle.wire.proofs.scan.count_strings.Statement.{statement}
 use Rattle.wire.proofs.scan.count_strings.Tie as tie
 

@@ -2,7 +2,7 @@
 use mathlib.Core.Path.{sym, ap, _∙_}
 use lib.Seq.{length-take-le}
 use Rattle.protobuf.proofs.laws.Read.{says}
-use Rattle.wire.specs.Outcome.{each}
+use Rattle.views.specs.Outcome.{each}
 use Rattle.wire.specs.Block.{keptBlock}
 use Rattle.wire.specs.Scan.{meta, afterScan}
 use Rattle.wire.proofs.laws.Scan.{scan-outside, scan-too-long, fields-refused, fields-read, fields-kept}

@@ -2,7 +2,7 @@
 use native.Mathlib.Omega.{arith}
 use mathlib.Core.Path.{sym, ap, _∙_}
 use Rattle.protobuf.proofs.laws.Read.{says}
-use Rattle.wire.specs.Outcome.{each}
+use Rattle.views.specs.Outcome.{each}
 use Rattle.wire.specs.Scan.{counted, meta, afterScan}
 use Rattle.wire.proofs.laws.Scan.{strings-within, strings-refused, strings-read, strings-counted}
 use borrow.Author.Needs.{needs}

@@ -4,7 +4,7 @@ use native.Mathlib.Omega.{arith}
 use lib.ListN.{length}
 use mathlib.Core.Path.{sym, ap, _∙_}
 use borrow.Author.Tests.{leb-true, leb-false}
-use Rattle.wire.specs.Outcome.{kept, each}
+use Rattle.views.specs.Outcome.{kept, each}
 use Rattle.wire.specs.Scan.{meta, afterScan}
 use Rattle.wire.proofs.laws.Scan.{no-room, with-room, strings-room, groups-room, both-written}
 use borrow.Author.Needs.{needs}

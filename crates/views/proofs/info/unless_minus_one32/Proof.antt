@@ -1,0 +1,18 @@
+-- `unless_minus_one32` is `unlessMinusOne` at 32 bits: the machine compares bits, and −1 alone has all of them set.
+use mir.Syntax.{w32}
+use Rattle.views.proofs.laws.Info.{minus-one, not-minus-one}
+use borrow.Author.Needs.{needs}
+use Rattle.views.proofs.info.unless_minus_one32.Statement.{statement}
+use Rattle.views.proofs.info.unless_minus_one32.Tie as tie
+
+int32-requires : tie.Need-int32-requires
+int32-requires c κs = search needs
+
+returns : tie.Need-returns
+returns c = simp (minus-one w32 (c .before .int32 .ok) (c .before .int32 .ensures) (c .if1 .taken))
+
+returns-2 : tie.Need-returns-2
+returns-2 c = simp (not-minus-one w32 (c .before .int32 .ok) (c .before .int32 .ensures) (c .if1 .left))
+
+pub unless-minus-one32-spec : {M : Type 1} → statement M
+unless-minus-one32-spec = tie.close (tie.spec int32-requires returns returns-2)

@@ -1,0 +1,212 @@
+-- Laws of a group's two readings. The dense pass: what is found up to p, with the fields from p on, is what is found in them all. The search
+-- for a message: where none is found up to p, the first from p on is the first of them all. Either's part lies within the group.
+use Prim.Native.Nat.{ℕ, _+_, _-_, _/_, _%_, _≤_, _<_}
+use mathlib.Core.Path.{_≡_, refl, sym, ap, _∙_, subst}
+use mathlib.Core.List.{List, [], _∷_}
+use mathlib.Core.Logic.{⊎-elim}
+use mathlib.Core.Bool.{Bool, true, false}
+use native.Mathlib.Omega.{arith}
+use lib.ListN.{length, drop, length-drop}
+use lib.Seq.{length-take-le}
+use lib.Dec.{eqb, leb}
+use denote.Enum.Declared.{tagOf}
+use types.Run.{OneOf}
+use borrow.Author.Tests.{eqb-true, le-leb, lt-leb}
+use Rattle.protobuf.specs.declared.refusal.Refusal.{Refusal}
+use Rattle.protobuf.specs.declared.refusal.Refusal.the-variants.{SecondDense, Outside}
+use Rattle.protobuf.specs.declared.message.Field as answer
+use Rattle.protobuf.specs.declared.message.Field.the-variants as variant
+use Rattle.protobuf.specs.Read.{choose}
+use Rattle.protobuf.specs.Tag.{Tag, split}
+use Rattle.protobuf.specs.Stream.{end, more, Item, last, item, follow}
+use Rattle.protobuf.specs.Message.{Field, MessageEnd, complete, cut, spoilt, Message, message, messageFrom, fieldAt}
+use Rattle.protobuf.specs.Answers.{fieldOf}
+use Rattle.protobuf.proofs.message.Field.{the-type}
+use Rattle.protobuf.proofs.laws.Read.{choose-elim}
+use Rattle.protobuf.proofs.laws.Stream.{Every, this-and}
+use Rattle.protobuf.proofs.laws.Message.{message-from, fields-forward, all-within}
+use Rattle.views.specs.declared.part.Part.{Part}
+use Rattle.views.specs.declared.group.WireMessageIter.{WireMessageIter}
+use Rattle.views.specs.declared.group.MessageStep.the-variants as step
+use Rattle.views.specs.Outcome.{Outcome, kept, refused, onward, each}
+use Rattle.views.specs.View.{noPart, partBy}
+use Rattle.views.specs.Handed.{moved}
+use Rattle.views.specs.Group.{isDense, denseTag, denseField, denseFrom, denseIn, isPart, firstPart, messageBy, messageStep}
+use Rattle.views.proofs.laws.Parse.{lent, lent-is}
+use Rattle.views.proofs.laws.Outcome.{If, so, not, if-kept, if-onward}
+
+-- a part that lies within n bytes
+abbrev Within : ℕ → Part → Type 0
+Within n p = p .start + p .len ≤ n
+
+abbrev FieldIn : ℕ → Field → Type 0
+FieldIn n f = f .payload .start + f .payload .len ≤ n
+
+lent-length : (s : List ℕ) (start len : ℕ) → start + len ≤ length s → length (lent s start len) ≡ len
+lent-length s start len h = ap length (lent-is s start len) ∙ length-take-le len (drop start s) (simp length-drop (omega arith))
+
+-- ---- the dense tag
+
+-- only 18 is the dense field's tag
+pub not-dense : (tag : ℕ) → (tag ≡ 18 → ⊥) → isDense (split tag) ≡ false
+not-dense tag h = by (eqb (tag / 8) 2) (eqb (tag % 8) 2) refl refl
+  where
+    by : (a b : Bool) → eqb (tag / 8) 2 ≡ a → eqb (tag % 8) 2 ≡ b → choose a b false ≡ false
+    by true true f w = absurd (h (omega (arith, eqb-true (tag / 8) 2 f, eqb-true (tag % 8) 2 w)))
+    by true false f w = refl
+    by false b f w = refl
+
+-- ---- the dense pass
+
+-- the fields up to p have given `found`
+pub record Passing (s : List ℕ) (found : Part) (p : ℕ) : Type 0 where
+  pub so : denseFrom noPart (message s) ≡ denseFrom found (messageFrom s p)
+
+module _ (s : List ℕ) where
+  pub pass-begins : Passing s noPart 0
+  pass-begins = record { so = refl }
+
+  module _ {found : Part} {p : ℕ} (w : Passing s found p) where
+    pass-item : {i : Item Field MessageEnd} → fieldAt s p ≡ i → denseFrom noPart (message s) ≡ denseFrom found (follow i (messageFrom s))
+    pass-item e = w .so ∙ ap (denseFrom found) (message-from s p ∙ ap (λ i. follow i (messageFrom s)) e)
+
+    pub pass-complete : fieldAt s p ≡ last complete → denseFrom noPart (message s) ≡ kept found
+    unfolding denseFrom
+    pass-complete e = pass-item e
+
+    pub pass-cut : {n : Refusal} → fieldAt s p ≡ last (cut n) → denseFrom noPart (message s) ≡ refused n
+    unfolding denseFrom
+    pass-cut e = pass-item e
+
+    pub pass-spoilt : {t : Tag} {n r : Refusal} → fieldAt s p ≡ last (spoilt t n) → refused r ≡ denseTag found t (refused n) → denseFrom noPart (message s) ≡ refused r
+    unfolding denseFrom
+    pass-spoilt e g = pass-item e ∙ sym g
+
+    module _ {f : Field} {q : ℕ} (e : fieldAt s p ≡ item f q) where
+      pub pass-refused : {n : Refusal} → denseField found f ≡ refused n → denseFrom noPart (message s) ≡ refused n
+      unfolding denseFrom onward
+      pass-refused g = pass-item e ∙ ap (λ (x : Outcome Part). onward x λ next. denseFrom next (messageFrom s q)) g
+
+      pub pass-kept : {found′ : Part} → denseField found f ≡ kept found′ → Passing s found′ q
+      unfolding denseFrom onward
+      pass-kept g = record { so = pass-item e ∙ ap (λ (x : Outcome Part). onward x λ next. denseFrom next (messageFrom s q)) g }
+
+  -- less is left behind a field
+  pub left-falls : (p : ℕ) {q : ℕ} {f : Field} → fieldAt s p ≡ item f q → length s - q < length s - p
+  left-falls p {q} {f} e = omega (arith, fields-forward s .moves p q f e)
+
+tag-in : (n : ℕ) (found : Part) (t : Tag) (otherwise : Outcome Part) → If (Within n) otherwise → If (Within n) (denseTag found t otherwise)
+tag-in n found t otherwise h =
+    choose-elim (If (Within n)) (choose (isDense t) (found .present) false) (refused SecondDense) otherwise (λ e. not) (λ e. h)
+
+field-in : (n : ℕ) (found : Part) (f : Field) → Within n found → FieldIn n f → If (Within n) (denseField found f)
+field-in n found f h x =
+    let part = partBy (f .payload .start) (f .payload .len) in
+    tag-in n found (f .tag) (kept (choose (isDense (f .tag)) part found)) (so (choose-elim (Within n) (isDense (f .tag)) part found (λ d. x) (λ d. h)))
+
+dense-in : (n : ℕ) (found : Part) (m : Message) → Within n found → Every (FieldIn n) m → If (Within n) (denseFrom found m)
+unfolding denseFrom
+dense-in n found (end complete) h g = so h
+dense-in n found (end (cut r)) h g = not
+dense-in n found (end (spoilt t r)) h g = tag-in n found t (refused r) not
+dense-in n found (more f rest) h (this-and x on) =
+    if-onward (λ next. denseFrom next rest) (field-in n found f h x) (λ next k. dense-in n next rest k on)
+
+module _ (s : List ℕ) (start len : ℕ) where
+  pub dense-outside : length s < start + len → refused Outside ≡ each (moved start) (denseIn s start len)
+  unfolding denseIn each
+  dense-outside h = simp (lt-leb _ _ h)
+
+  module _ (h : start + len ≤ length s) where
+    dense-part : denseIn s start len ≡ denseFrom noPart (message (lent s start len))
+    unfolding denseIn
+    dense-part = simp (le-leb _ _ h, lent-is s start len)
+
+    pub dense-refused : {n : Refusal} → denseFrom noPart (message (lent s start len)) ≡ refused n → refused n ≡ each (moved start) (denseIn s start len)
+    unfolding each
+    dense-refused e = sym (ap (each (moved start)) (dense-part ∙ e))
+
+    pub dense-found : {p : Part} → denseFrom noPart (message (lent s start len)) ≡ kept p → kept (moved start p) ≡ each (moved start) (denseIn s start len)
+    unfolding each
+    dense-found e = sym (ap (each (moved start)) (dense-part ∙ e))
+
+    pub dense-within : {p : Part} → denseFrom noPart (message (lent s start len)) ≡ kept p → start + p .start ≤ length s
+    dense-within {p} e =
+        let own = if-kept (subst (If (Within (length (lent s start len)))) e (dense-in (length (lent s start len)) noPart (message (lent s start len)) (omega arith) (all-within (lent s start len) 0))) in
+        omega (arith, own, lent-length s start len h)
+
+-- ---- the search for a message of field k
+
+-- an answer that is no field is the stream's end
+pub no-field : (r : answer.Field) → OneOf (0 ∷ 1 ∷ 2 ∷ []) (tagOf the-type r) → (x : MessageEnd) × (fieldOf r ≡ last x)
+no-field variant.Complete h = (complete, refl)
+no-field (variant.Cut n) h = (cut n, refl)
+no-field (variant.Spoilt t n) h = (spoilt (split t) n, refl)
+no-field (variant.Read t value start len next) h = absurd (⊎-elim (λ e. omega arith) (λ o. ⊎-elim (λ e. omega arith) (λ e. omega arith) o) h)
+
+-- no field between `from` and p is one
+pub record Seeking (s : List ℕ) (k from p : ℕ) : Type 0 where
+  pub so : firstPart k (messageFrom s from) ≡ firstPart k (messageFrom s p)
+
+module _ (s : List ℕ) (k from : ℕ) where
+  pub seek-begins : Seeking s k from from
+  seek-begins = record { so = refl }
+
+  module _ {p : ℕ} (w : Seeking s k from p) where
+    seek-item : {i : Item Field MessageEnd} → fieldAt s p ≡ i → firstPart k (messageFrom s from) ≡ firstPart k (follow i (messageFrom s))
+    seek-item e = w .so ∙ ap (firstPart k) (message-from s p ∙ ap (λ i. follow i (messageFrom s)) e)
+
+    pub seek-ends : {x : MessageEnd} → fieldAt s p ≡ last x → noPart ≡ firstPart k (messageFrom s from)
+    unfolding firstPart
+    seek-ends e = sym (seek-item e)
+
+    module _ {f : Field} {q : ℕ} (e : fieldAt s p ≡ item f q) where
+      pub seek-finds : isPart k f ≡ true → partBy (f .payload .start) (f .payload .len) ≡ firstPart k (messageFrom s from)
+      unfolding firstPart
+      seek-finds g = sym (seek-item e ∙ ap (λ (b : Bool). choose b (partBy (f .payload .start) (f .payload .len)) (firstPart k (messageFrom s q))) g)
+
+      pub seek-further : isPart k f ≡ false → Seeking s k from q
+      unfolding firstPart
+      seek-further g = record { so = seek-item e ∙ ap (λ (b : Bool). choose b (partBy (f .payload .start) (f .payload .len)) (firstPart k (messageFrom s q))) g }
+
+first-in : (n k : ℕ) (m : Message) → Every (FieldIn n) m → Within n (firstPart k m)
+unfolding firstPart
+first-in n k (end e) g = omega arith
+first-in n k (more f rest) (this-and x on) = choose-elim (Within n) (isPart k f) _ _ (λ e. x) (λ e. first-in n k rest on)
+
+not-both : {A : Type 0} (a : Bool) {b : Bool} → b ≡ false → (x y : A) → choose (choose a b false) x y ≡ y
+not-both true e x y = simp e
+not-both false e x y = refl
+
+module _ (s : List ℕ) (iter : WireMessageIter) where
+  abbrev group : List ℕ
+  group = lent s (iter .start) (iter .len)
+
+  -- the part that a step finds in its group
+  abbrev pub Found : Part → Type 0
+  Found p = p ≡ firstPart (iter .field) (messageFrom group (iter .at))
+
+  pub step-outside : length s < iter .start + iter .len → step.Refused Outside ≡ messageStep s iter
+  unfolding messageStep
+  step-outside h = simp (lt-leb _ _ h)
+
+  pub step-behind : iter .len < iter .at → step.Refused Outside ≡ messageStep s iter
+  unfolding messageStep
+  step-behind h = sym (not-both (leb (iter .start + iter .len) (length s)) (lt-leb _ _ h) _ _)
+
+  module _ (h : iter .start + iter .len ≤ length s) {p : Part} (g : Found p) where
+    pub step-within : iter .start + (p .start + p .len) ≤ length s
+    step-within =
+        let own = subst (Within (length group)) (sym g) (first-in (length group) (iter .field) (messageFrom group (iter .at)) (all-within group (iter .at))) in
+        omega (arith, own, lent-length s (iter .start) (iter .len) h)
+
+    module _ (a : iter .at ≤ iter .len) where
+      step-by : messageStep s iter ≡ messageBy iter p
+      unfolding messageStep
+      step-by = simp (le-leb _ _ h, le-leb _ _ a, g, lent-is s (iter .start) (iter .len))
+
+      pub step-ended : p .present ≡ false → step.Ended ≡ messageStep s iter
+      step-ended e = sym (step-by ∙ simp e)
+
+      pub step-message : {part : Part} → part ≡ moved (iter .start) p → p .present ≡ true → step.Message part (record { start = iter .start; len = iter .len; at = p .start + p .len; field = iter .field }) ≡ messageStep s iter
+      step-message is e = simp (is, e) (sym (step-by ∙ simp e))

@@ -1,0 +1,45 @@
+-- Laws of outcomes: what a mapped outcome was before, and what holds of one if it is kept.
+use Prim.Native.Nat.{ℕ}
+use mathlib.Core.Path.{_≡_, refl}
+use native.Mathlib.Omega.{arith}
+use Rattle.protobuf.specs.declared.refusal.Refusal.{Refusal}
+use Rattle.views.specs.Outcome.{Outcome, kept, refused, onward, each}
+
+module _ {A B : Type 0} (f : A → B) where
+  pub each-refused : (x : Outcome A) {n : Refusal} → each f x ≡ refused n → x ≡ refused n
+  unfolding each
+  each-refused (kept a) e = absurd (let z : _≡_ {A = ℕ} 0 1 = cc in omega arith)
+  each-refused (refused n) e = cc
+
+  pub each-kept : (x : Outcome A) {b : B} → each f x ≡ kept b → (a : A) × (x ≡ kept a) × (f a ≡ b)
+  unfolding each
+  each-kept (kept a) e = (a, refl, cc)
+  each-kept (refused n) e = absurd (let z : _≡_ {A = ℕ} 0 1 = cc in omega arith)
+
+-- an outcome that, if kept, is so
+pub data If {A : Type 0} (P : A → Type 0) : Outcome A → Type 0 where
+  so : {a : A} → P a → If P (kept a)
+  not : {n : Refusal} → If P (refused n)
+
+pub if-kept : {A : Type 0} {P : A → Type 0} {a : A} → If P (kept a) → P a
+if-kept (so h) = h
+
+pub if-each : {A B : Type 0} {P : A → Type 0} {Q : B → Type 0} (f : A → B) {x : Outcome A} → If P x → ((a : A) → P a → Q (f a)) → If Q (each f x)
+unfolding each
+if-each f (so {a = a} h) g = so (g a h)
+if-each f not g = not
+
+pub if-onward : {A B : Type 0} {P : A → Type 0} {Q : B → Type 0} (f : A → Outcome B) {x : Outcome A} → If P x → ((a : A) → P a → If Q (f a)) → If Q (onward x f)
+unfolding onward
+if-onward f (so {a = a} h) g = g a h
+if-onward f not g = not
+
+-- of a mapped outcome, whatever was mapped
+pub if-any : {A B : Type 0} {Q : B → Type 0} (f : A → B) (x : Outcome A) → ((a : A) → Q (f a)) → If Q (each f x)
+unfolding each
+if-any f (kept a) g = so (g a)
+if-any f (refused n) g = not
+
+pub if-so : {A : Type 0} {P Q : A → Type 0} (x : Outcome A) → If P x → ((a : A) → P a → Q a) → If Q x
+if-so x (so {a = a} h) g = so (g a h)
+if-so x not g = not
