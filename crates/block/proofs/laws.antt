@@ -5,3 +5,11 @@ pub mod Split
 pub mod Said
 pub mod Equal
 pub mod Accepted
+pub mod Count
+pub mod InStep
+pub mod Zip
+pub mod Onward
+pub mod Whole
+pub mod Dense
+pub mod Group
+pub mod Accept

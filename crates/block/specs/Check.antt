@@ -8,6 +8,7 @@ use Rattle.protobuf.specs.declared.refusal.Refusal.the-variants.{Counts}
 use Rattle.protobuf.specs.Read.{choose}
 use Rattle.protobuf.specs.Message.{message}
 use Rattle.protobuf.specs.Column.{Column}
+use Rattle.views.specs.declared.part.Part.{Part}
 use Rattle.views.specs.Outcome.{Outcome, kept, refused, onward}
 use Rattle.views.specs.View.{noPart, Schema, Slots, view}
 use Rattle.views.specs.Schema.{node, way, relation, denseNodes, denseInfo, info}
@@ -32,38 +33,73 @@ unfoldable pub sameThree : Column ℕ → Column ℕ → Column ℕ → Outcome 
 sameThree a b c =
     onward (countOf a) λ l. onward (countOf b) λ m. onward (countOf c) λ n. choose (choose (eqb l m) (eqb m n) false) (kept l) (refused Counts)
 
--- an element's message, by its schema: the message, its Info, keys, vals and their counts, and then what is its own
+-- a column read whole, its count compared with no other
+abbrev pub readWhole : Column ℕ → Outcome Unit
+readWhole c = onward (countOf c) λ n. passed
+
+-- ---- an element
+
+abbrev pub checkInfo : List ℕ → Outcome Unit
+checkInfo s = onward (view info s) λ i. passed
+
+abbrev pub checkTags : Column ℕ → Column ℕ → Outcome Unit
+checkTags keys vals = onward (sameCounts keys vals) λ n. passed
+
+abbrev pub checkMembers : Column ℕ → Column ℕ → Column ℕ → Outcome Unit
+checkMembers roles memids types = onward (sameThree roles memids types) λ n. passed
+
+-- what every element has: its Info, keys and vals
+abbrev pub checkCommon : List ℕ → Column ℕ → Column ℕ → Outcome Unit
+checkCommon i keys vals = onward (checkInfo i) λ u. checkTags keys vals
+
+-- an element's message, by its schema: the message, what every element has, and then what is its own
 unfoldable pub elementBy : Schema → (List ℕ → Slots → Outcome Unit) → List ℕ → Outcome Unit
 elementBy schema own s =
     onward (view schema s) λ slots.
-    onward (view info (bytesIn s (slots 4 .part))) λ i.
-    onward (sameCounts (columnIn s slots 2) (columnIn s slots 3)) λ n. own s slots
+    onward (checkCommon (bytesIn s (slots 4 .part)) (columnIn s slots 2) (columnIn s slots 3)) λ u. own s slots
 
 abbrev pub checkNode : List ℕ → Outcome Unit
 checkNode = elementBy node λ s slots. passed
 
 abbrev pub checkWay : List ℕ → Outcome Unit
-checkWay = elementBy way λ s slots. onward (countOf (columnIn s slots 8)) λ n. passed
+checkWay = elementBy way λ s slots. readWhole (columnIn s slots 8)
 
 abbrev pub checkRelation : List ℕ → Outcome Unit
-checkRelation =
-    elementBy relation λ s slots. onward (sameThree (columnIn s slots 8) (columnIn s slots 9) (columnIn s slots 10)) λ n. passed
+checkRelation = elementBy relation λ s slots. checkMembers (columnIn s slots 8) (columnIn s slots 9) (columnIn s slots 10)
 
--- the dense message: the message, DenseInfo, ids, lats, lons and their counts, keys_vals as walked, then the six info columns
+-- ---- a dense message
+
+-- keys_vals as walked, for n nodes
+abbrev pub checkPairs : ℕ → Column ℕ → Outcome Unit
+checkPairs n keyvals = onward (densePairs n keyvals) λ pairs. passed
+
+-- ids, lats, lons and their counts, and keys_vals
+abbrev pub checkRows : Column ℕ → Column ℕ → Column ℕ → Column ℕ → Outcome Unit
+checkRows ids lats lons keyvals = onward (sameThree ids lats lons) λ n. checkPairs n keyvals
+
+-- the message, DenseInfo, its rows, then the six info columns
 unfoldable pub checkDense : List ℕ → Outcome Unit
 checkDense s =
     onward (view denseNodes s) λ slots.
     onward (view denseInfo (bytesIn s (slots 5 .part))) λ columns.
-    onward (sameThree (columnIn s slots 1) (columnIn s slots 8) (columnIn s slots 9)) λ n.
-    onward (densePairs n (columnIn s slots 10)) λ pairs.
-    all (λ k. onward (countOf (columnIn (bytesIn s (slots 5 .part)) columns k)) λ m. passed) (1 ∷ 2 ∷ 3 ∷ 4 ∷ 5 ∷ 6 ∷ [])
+    onward (checkRows (columnIn s slots 1) (columnIn s slots 8) (columnIn s slots 9) (columnIn s slots 10)) λ u.
+    all (λ k. readWhole (columnIn (bytesIn s (slots 5 .part)) columns k)) (1 ∷ 2 ∷ 3 ∷ 4 ∷ 5 ∷ 6 ∷ [])
+
+-- ---- a group
+
+-- its dense message, where it has one
+abbrev pub checkFound : List ℕ → Part → Outcome Unit
+checkFound g found = all checkDense (choose (found .present) (bytesIn g found ∷ []) [])
+
+abbrev pub checkLoose : List ℕ → Outcome Unit
+checkLoose g =
+    onward (all checkNode (messagesOf 1 g)) λ u.
+    onward (all checkWay (messagesOf 3 g)) λ u. all checkRelation (messagesOf 4 g)
 
 unfoldable pub checkGroup : List ℕ → Outcome Unit
 checkGroup g =
     onward (denseFrom noPart (message g)) λ found.
-    onward (all checkDense (choose (found .present) (bytesIn g found ∷ []) [])) λ u.
-    onward (all checkNode (messagesOf 1 g)) λ u.
-    onward (all checkWay (messagesOf 3 g)) λ u. all checkRelation (messagesOf 4 g)
+    onward (checkFound g found) λ u. checkLoose g
 
 -- the check of a block's bytes
 unfoldable pub checked : List ℕ → Outcome Unit

@@ -2,7 +2,10 @@
 -- 4), from its bytes alone.
 pub mod Columns
 pub mod Tags
+pub mod InStep
+pub mod Zip
 pub mod Check
+pub mod Accept
 pub mod Strings
 pub mod Stored
 pub mod Listing

@@ -16,6 +16,9 @@ pub record NodePairs : Type 0 where
   pub pairs : List Pair
   pub rest : Column ℕ
 
+abbrev pub restOf : NodePairs → Column ℕ
+restOf found = found .rest
+
 abbrev pub pairBefore : ℕ → ℕ → NodePairs → NodePairs
 pairBefore k v found = record { pairs = record { key = k; value = v } ∷ found .pairs; rest = found .rest }
 

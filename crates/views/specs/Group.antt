@@ -1,5 +1,5 @@
 -- PrimitiveGroup: its dense message, of which it has at most one, and the messages of one field, one after the other.
-use Prim.Native.Nat.{ℕ, _+_, _/_}
+use Prim.Native.Nat.{ℕ, _+_}
 use mathlib.Core.List.{List}
 use mathlib.Core.Bool.{Bool, false}
 use lib.ListN.{length, take, drop}

@@ -1,6 +1,5 @@
 -- What a view hands out of a slot: its part, as a part of the bytes around the message.
 use Prim.Native.Nat.{ℕ, _+_}
-use mathlib.Core.Bool.{Bool}
 use Rattle.protobuf.specs.Read.{choose}
 use Rattle.views.specs.declared.part.Part.{Part}
 use Rattle.views.specs.declared.slot.Taken.{Taken}

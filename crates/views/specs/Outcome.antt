@@ -1,5 +1,4 @@
 -- What reading something whole gives: it, or a refusal.
-use mathlib.Core.Bool.{Bool}
 use Rattle.protobuf.specs.declared.refusal.Refusal.{Refusal}
 
 pub data Outcome (A : Type 0) : Type 0 where

@@ -1,6 +1,6 @@
 -- The schemas of osmformat.proto, as far as document 01 reads them. Lay them beside the file.
 use Prim.Native.Nat.{ℕ}
-use mathlib.Core.List.{List, [], _∷_}
+use mathlib.Core.List.{[], _∷_}
 use Rattle.views.specs.View.{Kind, scalar, int32, column, submessage, bytes, repeated, Row, Schema}
 
 abbrev pub row : ℕ → Kind → Row

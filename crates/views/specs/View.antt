@@ -1,14 +1,13 @@
 -- A view of a message: what stands in each field of its schema. A schema is a row for each field: its number, and what the view makes of
 -- it. A view is a fold over the message's stream that stops at the first refusal, the stream's or its own. A field whose pair of number and
 -- wire type no row takes is passed over.
-use Prim.Native.Nat.{ℕ, suc, _+_, _-_, _^_}
+use Prim.Native.Nat.{ℕ, _+_, _-_, _^_}
 use mathlib.Core.List.{List, [], _∷_}
 use mathlib.Core.Bool.{Bool, true, false}
 use lib.ListN.{length, take, drop}
 use lib.Dec.{eqb, leb, ltb}
 use Rattle.protobuf.specs.declared.refusal.Refusal.the-variants.{Granularity, SecondColumn, SecondInfo, Outside}
 use Rattle.protobuf.specs.Read.{choose}
-use Rattle.protobuf.specs.Tag.{Tag}
 use Rattle.protobuf.specs.Payload.{Payload}
 use Rattle.protobuf.specs.Stream.{end, more}
 use Rattle.protobuf.specs.Message.{Field, complete, cut, spoilt, Message, message}

@@ -1,6 +1,6 @@
 // What an occurrence of a column or of an Info does to the part that stands for it so far.
 ghost use mathlib.Core.Path.{_≡_};
-ghost use Prim.Native.Nat.{_+_, _≤_, _^_, _<_};
+ghost use Prim.Native.Nat.{_+_, _^_, _<_};
 ghost use Rattle.views.specs.View.{columnPart, infoPart};
 ghost use Rattle.views.specs.Handed.{takenPart, moved};
 use crate::part::Part;

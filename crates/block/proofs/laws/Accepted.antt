@@ -9,7 +9,6 @@ use native.Mathlib.Omega.{arith}
 use lib.ListN.{length}
 use lib.Dec.{eqb}
 use borrow.Author.Tests.{eqb-true}
-use Rattle.protobuf.specs.declared.refusal.Refusal.{Refusal}
 use Rattle.protobuf.specs.declared.refusal.Refusal.the-variants.{Counts}
 use Rattle.protobuf.specs.Read.{choose}
 use Rattle.protobuf.specs.Tag.{tagAt}
@@ -18,12 +17,13 @@ use Rattle.protobuf.specs.Column.{ended, cut, Column, valueAt, columnFrom, int3
 use Rattle.views.specs.declared.part.Part.{Part}
 use Rattle.views.specs.Outcome.{Outcome, kept, refused, onward, each}
 use Rattle.views.specs.View.{noPart, Slots, empty, viewFrom, view}
-use Rattle.views.specs.Schema.{relation, denseNodes, denseInfo, info}
+use Rattle.views.specs.Schema.{relation, denseNodes, denseInfo}
 use Rattle.views.specs.Group.{denseFrom}
 use Rattle.protobuf.specs.Message.{message, fieldAt, messageFrom}
+use Rattle.views.proofs.laws.Outcome.{went, chosen, kept-same}
 use Rattle.block.specs.Columns.{bytesIn, messagesOf, columnIn, countOf}
 use Rattle.block.specs.Tags.{Pair, NodePairs, takePairs, densePairs}
-use Rattle.block.specs.Check.{passed, all, sameCounts, sameThree, elementBy, checkNode, checkWay, checkRelation, checkDense, checkGroup, checked}
+use Rattle.block.specs.Check.{passed, all, sameThree, checkCommon, elementBy, checkRows, checkNode, checkWay, checkRelation, checkDense, checkGroup, checked}
 use Rattle.block.specs.Stored.{keptOr, slotsOf, valuesOf, foundBytes, denseBy}
 use Rattle.block.specs.Listing.{listing}
 use Rattle.block.specs.Content.{content}
@@ -34,16 +34,6 @@ use Rattle.block.proofs.laws.Equal.{EvenGroup, even-equal}
 
 -- ---- outcomes that were kept
 
-pub record Went {A B : Type 0} (x : Outcome A) (f : A → Outcome B) (b : B) : Type 0 where
-  pub value : A
-  pub is : x ≡ kept value
-  pub on : f value ≡ kept b
-
-pub went : {A B : Type 0} (x : Outcome A) (f : A → Outcome B) {b : B} → onward x f ≡ kept b → Went x f b
-unfolding onward
-went (kept a) f p = record { value = a; is = refl; on = p }
-went (refused r) f p = absurd (let z : _≡_ {A = ℕ} 0 1 = cc in omega arith)
-
 record Made {A B : Type 0} (x : Outcome A) (f : A → B) (b : B) : Type 0 where
   value : A
   is : x ≡ kept value
@@ -51,7 +41,7 @@ record Made {A B : Type 0} (x : Outcome A) (f : A → B) (b : B) : Type 0 where
 
 made : {A B : Type 0} (x : Outcome A) (f : A → B) {b : B} → each f x ≡ kept b → Made x f b
 unfolding each
-made (kept a) f {b} p = record { value = a; is = refl; so = ap (keptOr b) p }
+made (kept a) f p = record { value = a; is = refl; so = kept-same p }
 made (refused r) f p = absurd (let z : _≡_ {A = ℕ} 0 1 = cc in omega arith)
 
 pub all-passed : {A : Type 0} (check : A → Outcome Unit) (xs : List A) → all check xs ≡ passed → Each (λ (a : A). check a ≡ passed) xs
@@ -79,10 +69,6 @@ mapped-length f (more v rest) = omega (arith, mapped-length f rest)
 count-values : {A : Type 0} (f : ℕ → A) (c : Column ℕ) {n : ℕ} → countOf c ≡ kept n → length (valuesOf (mapped f c)) ≡ n
 count-values f c p = mapped-length f c ∙ plain-values c p
 
-chosen : (t : Bool) (a b : ℕ) (r : Refusal) → choose t (kept a) (refused r) ≡ kept b → (t ≡ true) × (a ≡ b)
-chosen true a b r p = (refl, ap (keptOr b) p)
-chosen false a b r p = absurd (let z : _≡_ {A = ℕ} 0 1 = cc in omega arith)
-
 both-true : (s t : Bool) → choose s t false ≡ true → (s ≡ true) × (t ≡ true)
 both-true true t p = (refl, p)
 both-true false t p = absurd (let z : _≡_ {A = ℕ} 0 1 = cc in omega arith)
@@ -101,11 +87,11 @@ three a b c {n} p =
     let m = wb .value in
     let wc = went (countOf c) (λ k. choose (choose (eqb l m) (eqb m k) false) (kept l) (refused Counts)) (wb .on) in
     let k = wc .value in
-    let test = chosen (choose (eqb l m) (eqb m k) false) l n Counts (wc .on) in
+    let test = chosen (choose (eqb l m) (eqb m k) false) (kept l) Counts (wc .on) in
     let tests = both-true (eqb l m) (eqb m k) (test .0) in
     let lm : l ≡ m = eqb-true l m (tests .0) in
     let mk : m ≡ k = eqb-true m k (tests .1) in
-    let ln : l ≡ n = test .1 in
+    let ln : l ≡ n = kept-same (test .1) in
     record {
       first = wa .is ∙ ap kept ln;
       second = wb .is ∙ ap kept (sym lm ∙ ln);
@@ -127,8 +113,7 @@ unfolding elementBy
 even-relation s p =
     let w = went (view relation s) _ p in
     let slots = w .value in
-    let wi = went (view info (bytesIn s (slots 4 .part))) _ (w .on) in
-    let wk = went (sameCounts (columnIn s slots 2) (columnIn s slots 3)) _ (wi .on) in
+    let wk = went (checkCommon (bytesIn s (slots 4 .part)) (columnIn s slots 2) (columnIn s slots 3)) _ (w .on) in
     let wm = went (sameThree (columnIn s slots 8) (columnIn s slots 9) (columnIn s slots 10)) _ (wk .on) in
     let c = three (columnIn s slots 8) (columnIn s slots 9) (columnIn s slots 10) (wm .is) in
     let same : slots ≡ slotsOf relation s = ap (keptOr empty) (sym (w .is)) in
@@ -145,7 +130,8 @@ even-dense s p =
     let w = went (view denseNodes s) _ p in
     let slots = w .value in
     let wi = went (view denseInfo (bytesIn s (slots 5 .part))) _ (w .on) in
-    let wc = went (sameThree (columnIn s slots 1) (columnIn s slots 8) (columnIn s slots 9)) _ (wi .on) in
+    let wr = went (checkRows (columnIn s slots 1) (columnIn s slots 8) (columnIn s slots 9) (columnIn s slots 10)) _ (wi .on) in
+    let wc = went (sameThree (columnIn s slots 1) (columnIn s slots 8) (columnIn s slots 9)) _ (wr .is) in
     let n = wc .value in
     let wp = went (densePairs n (columnIn s slots 10)) _ (wc .on) in
     let c = three (columnIn s slots 1) (columnIn s slots 8) (columnIn s slots 9) (wc .is) in

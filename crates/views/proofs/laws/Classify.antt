@@ -1,5 +1,5 @@
 -- Laws of `blockType`: by the length, and by the two parts of the first byte.
-use Prim.Native.Nat.{ℕ, zero, suc, _/_, _%_, _<_}
+use Prim.Native.Nat.{ℕ, zero, suc, _/_, _%_}
 use mathlib.Core.Path.{_≡_, refl, ap, _∙_}
 use mathlib.Core.List.{List, [], _∷_}
 use native.Mathlib.Omega.{arith}
@@ -7,7 +7,6 @@ use lib.ListN.{length, getD}
 use lib.Dec.{eqb}
 use borrow.Author.Tests.{eq-eqb, ne-eqb}
 use Rattle.protobuf.specs.Read.{choose}
-use Rattle.views.specs.declared.classify.BlockType.{BlockType}
 use Rattle.views.specs.declared.classify.BlockType.the-variants.{Empty, Mixed}
 use Rattle.views.specs.Classify.{byField, blockType}
 

@@ -11,7 +11,7 @@ use lib.Seq.{length-take-le}
 use lib.Dec.{eqb, leb}
 use denote.Enum.Declared.{tagOf}
 use types.Run.{OneOf}
-use borrow.Author.Tests.{eqb-true, le-leb, lt-leb}
+use borrow.Author.Tests.{eq-eqb, eqb-true, le-leb, lt-leb}
 use Rattle.protobuf.specs.declared.refusal.Refusal.{Refusal}
 use Rattle.protobuf.specs.declared.refusal.Refusal.the-variants.{SecondDense, Outside}
 use Rattle.protobuf.specs.declared.message.Field as answer
@@ -47,14 +47,24 @@ lent-length s start len h = ap length (lent-is s start len) ∙ length-take-le l
 
 -- ---- the dense tag
 
--- only 18 is the dense field's tag
+-- only the tag of a message in field k is a part of field k
+module _ (tag : ℕ) (h : tag % 8 ≡ 2) (t : ℕ) where
+  pub own-tag : t ≡ tag → choose (eqb (t / 8) (tag / 8)) (eqb (t % 8) 2) false ≡ true
+  own-tag e =
+      let f : t / 8 ≡ tag / 8 = ap (λ (x : ℕ). x / 8) e in
+      let g : t % 8 ≡ 2 = ap (λ (x : ℕ). x % 8) e ∙ h in
+      simp (eq-eqb _ _ f, eq-eqb _ _ g)
+
+  pub other-tag : (t ≡ tag → ⊥) → choose (eqb (t / 8) (tag / 8)) (eqb (t % 8) 2) false ≡ false
+  other-tag n = by (eqb (t / 8) (tag / 8)) (eqb (t % 8) 2) refl refl
+    where
+      by : (a b : Bool) → eqb (t / 8) (tag / 8) ≡ a → eqb (t % 8) 2 ≡ b → choose a b false ≡ false
+      by true true f w = absurd (n (omega (arith, eqb-true (t / 8) (tag / 8) f, eqb-true (t % 8) 2 w)))
+      by true false f w = refl
+      by false b f w = refl
+
 pub not-dense : (tag : ℕ) → (tag ≡ 18 → ⊥) → isDense (split tag) ≡ false
-not-dense tag h = by (eqb (tag / 8) 2) (eqb (tag % 8) 2) refl refl
-  where
-    by : (a b : Bool) → eqb (tag / 8) 2 ≡ a → eqb (tag % 8) 2 ≡ b → choose a b false ≡ false
-    by true true f w = absurd (h (omega (arith, eqb-true (tag / 8) 2 f, eqb-true (tag % 8) 2 w)))
-    by true false f w = refl
-    by false b f w = refl
+not-dense tag h = other-tag 18 refl tag h
 
 -- ---- the dense pass
 
@@ -95,22 +105,27 @@ module _ (s : List ℕ) where
   pub left-falls : (p : ℕ) {q : ℕ} {f : Field} → fieldAt s p ≡ item f q → length s - q < length s - p
   left-falls p {q} {f} e = omega (arith, fields-forward s .moves p q f e)
 
-tag-in : (n : ℕ) (found : Part) (t : Tag) (otherwise : Outcome Part) → If (Within n) otherwise → If (Within n) (denseTag found t otherwise)
-tag-in n found t otherwise h =
-    choose-elim (If (Within n)) (choose (isDense t) (found .present) false) (refused SecondDense) otherwise (λ e. not) (λ e. h)
+-- what holds of every part of a field holds of the dense message that is found
+module _ (P : Part → Type 0) (n : ℕ) (by : (start len : ℕ) → start + len ≤ n → P (partBy start len)) where
+  tag-holds : (found : Part) (t : Tag) (otherwise : Outcome Part) → If P otherwise → If P (denseTag found t otherwise)
+  tag-holds found t otherwise h =
+      choose-elim (If P) (choose (isDense t) (found .present) false) (refused SecondDense) otherwise (λ e. not) (λ e. h)
 
-field-in : (n : ℕ) (found : Part) (f : Field) → Within n found → FieldIn n f → If (Within n) (denseField found f)
-field-in n found f h x =
-    let part = partBy (f .payload .start) (f .payload .len) in
-    tag-in n found (f .tag) (kept (choose (isDense (f .tag)) part found)) (so (choose-elim (Within n) (isDense (f .tag)) part found (λ d. x) (λ d. h)))
+  field-holds : (found : Part) (f : Field) → P found → FieldIn n f → If P (denseField found f)
+  field-holds found f h x =
+      let part = partBy (f .payload .start) (f .payload .len) in
+      tag-holds found (f .tag) (kept (choose (isDense (f .tag)) part found)) (so (choose-elim P (isDense (f .tag)) part found (λ d. by _ _ x) (λ d. h)))
 
-dense-in : (n : ℕ) (found : Part) (m : Message) → Within n found → Every (FieldIn n) m → If (Within n) (denseFrom found m)
-unfolding denseFrom
-dense-in n found (end complete) h g = so h
-dense-in n found (end (cut r)) h g = not
-dense-in n found (end (spoilt t r)) h g = tag-in n found t (refused r) not
-dense-in n found (more f rest) h (this-and x on) =
-    if-onward (λ next. denseFrom next rest) (field-in n found f h x) (λ next k. dense-in n next rest k on)
+  found-holds : (found : Part) (m : Message) → P found → Every (FieldIn n) m → If P (denseFrom found m)
+  unfolding denseFrom
+  found-holds found (end complete) h g = so h
+  found-holds found (end (cut r)) h g = not
+  found-holds found (end (spoilt t r)) h g = tag-holds found t (refused r) not
+  found-holds found (more f rest) h (this-and x on) =
+      if-onward (λ next. denseFrom next rest) (field-holds found f h x) (λ next k. found-holds next rest k on)
+
+pub dense-holds : (P : Part → Type 0) (s : List ℕ) → P noPart → ((start len : ℕ) → start + len ≤ length s → P (partBy start len)) → {p : Part} → denseFrom noPart (message s) ≡ kept p → P p
+dense-holds P s h by e = if-kept (subst (If P) e (found-holds P (length s) by noPart (message s) h (all-within s 0)))
 
 module _ (s : List ℕ) (start len : ℕ) where
   pub dense-outside : length s < start + len → refused Outside ≡ each (moved start) (denseIn s start len)
@@ -132,7 +147,7 @@ module _ (s : List ℕ) (start len : ℕ) where
 
     pub dense-within : {p : Part} → denseFrom noPart (message (lent s start len)) ≡ kept p → start + p .start ≤ length s
     dense-within {p} e =
-        let own = if-kept (subst (If (Within (length (lent s start len)))) e (dense-in (length (lent s start len)) noPart (message (lent s start len)) (omega arith) (all-within (lent s start len) 0))) in
+        let own = dense-holds (Within (length (lent s start len))) (lent s start len) (omega arith) (λ start len k. k) e in
         omega (arith, own, lent-length s start len h)
 
 -- ---- the search for a message of field k

@@ -1,8 +1,10 @@
--- Laws of outcomes: what a mapped outcome was before, and what holds of one if it is kept.
+-- Laws of outcomes: what a mapped outcome was before, what was kept on the way to one that is, and what holds of one if it is kept.
 use Prim.Native.Nat.{ℕ}
 use mathlib.Core.Path.{_≡_, refl}
+use mathlib.Core.Bool.{Bool, true, false}
 use native.Mathlib.Omega.{arith}
 use Rattle.protobuf.specs.declared.refusal.Refusal.{Refusal}
+use Rattle.protobuf.specs.Read.{choose}
 use Rattle.views.specs.Outcome.{Outcome, kept, refused, onward, each}
 
 module _ {A B : Type 0} (f : A → B) where
@@ -15,6 +17,25 @@ module _ {A B : Type 0} (f : A → B) where
   unfolding each
   each-kept (kept a) e = (a, refl, cc)
   each-kept (refused n) e = absurd (let z : _≡_ {A = ℕ} 0 1 = cc in omega arith)
+
+pub kept-same : {A : Type 0} {a b : A} → kept a ≡ kept b → a ≡ b
+kept-same e = cc
+
+-- what went on to be kept was kept before
+pub record Went {A B : Type 0} (x : Outcome A) (f : A → Outcome B) (b : B) : Type 0 where
+  pub value : A
+  pub is : x ≡ kept value
+  pub on : f value ≡ kept b
+
+pub went : {A B : Type 0} (x : Outcome A) (f : A → Outcome B) {b : B} → onward x f ≡ kept b → Went x f b
+unfolding onward
+went (kept a) f p = record { value = a; is = refl; on = p }
+went (refused r) f p = absurd (let z : _≡_ {A = ℕ} 0 1 = cc in omega arith)
+
+-- what was kept under a test passed it
+pub chosen : {A : Type 0} (t : Bool) (x : Outcome A) (r : Refusal) {a : A} → choose t x (refused r) ≡ kept a → (t ≡ true) × (x ≡ kept a)
+chosen true x r p = (refl, p)
+chosen false x r p = absurd (let z : _≡_ {A = ℕ} 0 1 = cc in omega arith)
 
 -- an outcome that, if kept, is so
 pub data If {A : Type 0} (P : A → Type 0) : Outcome A → Type 0 where

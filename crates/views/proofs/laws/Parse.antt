@@ -1,7 +1,7 @@
 -- Laws of a public view, over any schema and any record: the range is tested, the part is viewed, and the record is handed out with its
 -- parts as parts of the buffer, where they fit.
 use Prim.Native.Nat.{ℕ, _+_, _-_, _≤_, _<_}
-use mathlib.Core.Path.{_≡_, refl, sym, ap, _∙_}
+use mathlib.Core.Path.{_≡_, sym, ap, _∙_}
 use mathlib.Core.List.{List}
 use native.Mathlib.Nat.{add-sub-cancel-left}
 use native.Mathlib.Omega.{arith}
@@ -10,7 +10,7 @@ use lib.Seq.{length-take-le}
 use Rattle.protobuf.specs.declared.refusal.Refusal.{Refusal}
 use Rattle.protobuf.specs.declared.refusal.Refusal.the-variants.{Outside}
 use Rattle.views.specs.declared.part.Part.{Part}
-use Rattle.views.specs.Outcome.{Outcome, kept, refused, each}
+use Rattle.views.specs.Outcome.{kept, refused, each}
 use Rattle.views.specs.View.{Schema, Slots, view, viewIn}
 use Rattle.views.proofs.laws.Outcome.{each-kept, each-refused}
 use Rattle.views.proofs.laws.View.{view-outside, view-inside}

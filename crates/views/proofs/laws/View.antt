@@ -12,7 +12,7 @@ use borrow.Author.Tests.{eqb-true, eq-eqb, le-leb, lt-leb}
 use Rattle.protobuf.specs.declared.refusal.Refusal.{Refusal}
 use Rattle.protobuf.specs.declared.refusal.Refusal.the-variants.{Granularity, Outside}
 use Rattle.protobuf.specs.Read.{choose}
-use Rattle.protobuf.specs.Payload.{Payload, payloadOf}
+use Rattle.protobuf.specs.Payload.{payloadOf}
 use Rattle.protobuf.specs.Stream.{Item, last, item, follow}
 use Rattle.protobuf.specs.Tag.{Tag}
 use Rattle.protobuf.specs.Message.{Field, MessageEnd, complete, cut, spoilt, fieldAt, messageFrom}
@@ -25,7 +25,7 @@ use Rattle.views.specs.declared.slot.Taken.the-variants as taken
 use Rattle.views.specs.Handed.{takenPart}
 use Rattle.views.specs.Outcome.{Outcome, kept, refused, onward, each}
 use Rattle.views.proofs.laws.Outcome.{each-refused, each-kept}
-use Rattle.views.specs.View.{Kind, scalar, int32, column, submessage, bytes, repeated, Row, Schema, takes, isInt32, partBy, Slot, slotBy, Slots, empty, with, columnPart, infoPart, put, store, view, viewFrom, viewIn}
+use Rattle.views.specs.View.{Kind, scalar, int32, column, submessage, bytes, repeated, Row, Schema, takes, isInt32, partBy, slotBy, Slots, empty, with, columnPart, infoPart, put, store, view, viewFrom, viewIn}
 
 -- ---- a field that a row takes
 

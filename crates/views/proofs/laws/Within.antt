@@ -17,7 +17,7 @@ use Rattle.protobuf.proofs.laws.Stream.{Every, this-and}
 use Rattle.protobuf.proofs.laws.Message.{all-within}
 use Rattle.views.specs.declared.part.Part.{Part}
 use Rattle.views.specs.Outcome.{kept}
-use Rattle.views.specs.View.{Kind, scalar, int32, column, submessage, bytes, repeated, isInt32, Row, Schema, takes, partBy, noPart, Slot, slotBy, Slots, empty, with, columnPart, infoPart, put, store, view, viewFrom}
+use Rattle.views.specs.View.{Kind, scalar, int32, column, submessage, bytes, repeated, isInt32, Schema, takes, partBy, noPart, Slot, slotBy, Slots, empty, with, columnPart, infoPart, put, store, view, viewFrom}
 use Rattle.views.specs.Handed.{moved}
 use Rattle.views.proofs.laws.Outcome.{If, so, not, if-kept, if-each, if-onward}
 

@@ -2,7 +2,7 @@
 use Prim.Native.Nat.{ℕ, _+_, _*_}
 use mathlib.Core.Path.{_≡_, refl, sym, ap, _∙_, subst}
 use mathlib.Core.Bool.{Bool, true, false}
-use mathlib.Core.List.{List, [], _∷_, _++_}
+use mathlib.Core.List.{List, [], _∷_}
 use native.Mathlib.Omega.{arith}
 use lib.ListN.{length, length-append}
 use lib.Dec.{eqb}
@@ -12,12 +12,12 @@ use Rattle.protobuf.specs.Stream.{end, more}
 use Rattle.protobuf.specs.Message.{Field, complete, cut, spoilt, Message, message}
 use Rattle.protobuf.specs.Little.{bytes}
 use Rattle.protobuf.proofs.laws.Read.{choose-elim}
-use Rattle.views.specs.Outcome.{Outcome, kept, refused, onward, each}
+use Rattle.views.specs.Outcome.{kept, each}
 use Rattle.views.specs.View.{Kind, repeated, Row, Schema, takes, Slot, slotBy, partBy, Slots, empty, with, put, store, view, viewFrom}
 use Rattle.views.specs.Schema.{row}
 use Rattle.views.specs.Group.{isPart}
 use Rattle.wire.specs.Tables.{entry, entries}
-use Rattle.views.proofs.laws.Outcome.{If, so, not, if-kept, if-each, if-onward, if-any, if-so}
+use Rattle.views.proofs.laws.Outcome.{If, so, not, if-kept, if-onward, if-any, if-so}
 
 -- how many length-delimited occurrences of field k there are
 parts : ℕ → Message → ℕ

@@ -1,14 +1,12 @@
 -- The loop that writes a message's entries: what is written so far and the entries of the fields to come are the entries of them all. The
 -- message stands before the place where they go, so it does not change.
-use Prim.Native.Nat.{ℕ, suc, _+_, _-_, _/_, _%_, _≤_, _<_}
-use mathlib.Core.Path.{_≡_, refl, sym, ap, _∙_, subst}
+use Prim.Native.Nat.{ℕ, _+_, _-_, _/_, _≤_, _<_}
+use mathlib.Core.Path.{_≡_, refl, sym, ap, _∙_}
 use mathlib.Core.Bool.{Bool, true, false}
-use mathlib.Core.List.{List, [], _∷_, _++_, append-assoc, append-nil}
+use mathlib.Core.List.{List, [], _++_, append-assoc, append-nil}
 use native.Mathlib.Omega.{arith}
 use lib.ListN.{length, take, drop, length-append, length-drop}
 use lib.Seq.{length-take-le}
-use lib.Dec.{eqb}
-use borrow.Author.Tests.{eq-eqb, eqb-true}
 use Rattle.protobuf.specs.Read.{choose}
 use Rattle.protobuf.specs.Stream.{Item, last, item, follow}
 use Rattle.protobuf.specs.Message.{Field, MessageEnd, message, messageFrom, fieldAt}
@@ -17,6 +15,7 @@ use Rattle.protobuf.specs.Little.{bytes}
 use Rattle.protobuf.proofs.laws.Message.{message-from, fields-forward, field-within}
 use Rattle.views.specs.Group.{isPart}
 use Rattle.wire.specs.Tables.{entry, entries, written, Room}
+use Rattle.views.proofs.laws.Group.{own-tag, other-tag}
 use Rattle.views.proofs.laws.Parse.{lent, lent-is}
 use Rattle.wire.proofs.laws.Tables.{written-none, written-length, written-before, written-more, tail-back}
 
@@ -80,18 +79,10 @@ module _ {s : List ℕ} {base len tag to : ℕ} {b : List ℕ} {place at : ℕ} 
     fill-within = omega (arith, field-within (part s base len) at _ q (on-part e), part-length s base len tag to (w .room))
 
     other : (t ≡ tag → ⊥) → isPart (tag / 8) (fieldBy t value start n) ≡ false
-    other h = by (eqb (t / 8) (tag / 8)) (eqb (t % 8) 2) refl refl
-      where
-        by : (x y : Bool) → eqb (t / 8) (tag / 8) ≡ x → eqb (t % 8) 2 ≡ y → choose x y false ≡ false
-        by true true f g = absurd (h (omega (arith, eqb-true (t / 8) (tag / 8) f, eqb-true (t % 8) 2 g, w .room .parts)))
-        by true false f g = refl
-        by false y f g = refl
+    other h = other-tag tag (w .room .parts) t h
 
     own : t ≡ tag → isPart (tag / 8) (fieldBy t value start n) ≡ true
-    own h =
-        let f : t / 8 ≡ tag / 8 = ap (λ (x : ℕ). x / 8) h in
-        let g : t % 8 ≡ 2 = ap (λ (x : ℕ). x % 8) h ∙ w .room .parts in
-        simp (eq-eqb _ _ f, eq-eqb _ _ g)
+    own h = own-tag tag (w .room .parts) t h
 
     abbrev chosen : Bool → List ℕ
     chosen x = choose x (entry (base + start) n) [] ++ entries base (tag / 8) (messageFrom (part s base len) q)

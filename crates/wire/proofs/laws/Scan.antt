@@ -2,13 +2,12 @@
 -- the strings' entries and then the groups' behind them writes both.
 use Prim.Native.Nat.{ℕ, _+_, _-_, _*_, _≤_, _<_}
 use mathlib.Core.Path.{_≡_, refl, sym, ap, _∙_, subst}
-use mathlib.Core.Bool.{Bool, true, false}
-use mathlib.Core.List.{List, [], _∷_, _++_, append-assoc}
+use mathlib.Core.List.{List}
 use native.Mathlib.Omega.{arith}
-use lib.ListN.{length, take, drop, length-append, length-take, length-drop}
+use lib.ListN.{length, take, drop, length-append}
 use lib.Seq.{length-take-le, take-take}
 use lib.Dec.{leb}
-use borrow.Author.Tests.{le-leb, lt-leb, leb-true, leb-false, eqb-false}
+use borrow.Author.Tests.{le-leb, lt-leb, leb-true, eqb-false}
 use Rattle.protobuf.specs.declared.refusal.Refusal.{Refusal}
 use Rattle.protobuf.specs.declared.refusal.Refusal.the-variants.{BlockTooLong, NoRoom, Outside}
 use Rattle.protobuf.specs.Message.{message}
@@ -21,7 +20,7 @@ use Rattle.views.specs.Schema.{primitiveBlock, stringTable}
 use Rattle.wire.specs.Block.{blockFields}
 use Rattle.wire.specs.Tables.{entries, written, Room}
 use Rattle.wire.specs.Scan.{limit, stringBytes, stringCount, tables, recordBy, Scanned, tablesStage, stringsStage, fieldsStage, scanned, FieldsRead, StringsRead}
-use Rattle.views.proofs.laws.Outcome.{each-kept, each-refused}
+use Rattle.views.proofs.laws.Outcome.{each-kept, each-refused, went, chosen, kept-same}
 use Rattle.views.proofs.laws.Parse.{lent, lent-is}
 use Rattle.views.proofs.laws.Within.{parts-within}
 use Rattle.wire.proofs.laws.Counting.{Counts, here, there, none, past, table-length}
@@ -54,20 +53,20 @@ module _ {s : List ℕ} {block : ℕ} {top : BlockFields} (r : FieldsRead s bloc
   pub string-bytes : stringBytes (take block s) top ≡ take (top .strings .len) (drop (top .strings .start) s)
   string-bytes = part-of-front s block (top .strings .start) (top .strings .len) strings-within
 
-  groups-length : length (entries 0 2 (message (take block s))) ≡ 8 * top .groups
+  pub groups-length : length (entries 0 2 (message (take block s))) ≡ 8 * top .groups
   groups-length = table-length 2 group-count 0 (take block s) (r .so) ∙ ap (λ (v : BlockFields). 8 * v .groups) (sym (r .is))
 
 module _ {s : List ℕ} {block : ℕ} {top : BlockFields} {strings : ℕ} (r : StringsRead s block top strings) where
-  abbrev stringEntries : List ℕ
+  abbrev pub stringEntries : List ℕ
   stringEntries = entries (top .strings .start) 1 (message (stringBytes (take block s) top))
 
-  abbrev groupEntries : List ℕ
+  abbrev pub groupEntries : List ℕ
   groupEntries = entries 0 2 (message (take block s))
 
-  strings-length : length stringEntries ≡ 8 * strings
+  pub strings-length : length stringEntries ≡ 8 * strings
   strings-length = table-length 1 string-count (top .strings .start) (stringBytes (take block s) top) (r .so) ∙ ap (λ (n : ℕ). 8 * n) (sym (r .is))
 
-  total : length (tables (take block s) top) ≡ 8 * (strings + top .groups)
+  pub total : length (tables (take block s) top) ≡ 8 * (strings + top .groups)
   total =
       length-append stringEntries groupEntries
       ∙ omega (arith, strings-length, groups-length (r .before))
@@ -181,3 +180,37 @@ module _ (s : List ℕ) (block : ℕ) where
             fields
             ∙ ap (λ (x : Outcome Slots). onward x λ slots. stringsStage (length s) block (take block s) (blockFields slots)) (fields-read .so)
             ∙ ap (stringsStage (length s) block (take block s)) (sym (fields-read .is))
+
+-- ---- what a scan has read where it was kept
+
+pub record Kept (s : List ℕ) (block : ℕ) (x : Scanned) : Type 0 where
+  pub top : BlockFields
+  pub strings : ℕ
+  pub read : StringsRead s block top strings
+  pub below : block ≤ limit
+  pub room : block + length (tables (take block s) top) ≤ length s
+  pub is : x ≡ record { block = recordBy block top strings; table = tables (take block s) top }
+
+pub scan-kept : (s : List ℕ) (block : ℕ) {x : Scanned} → scanned s block ≡ kept x → Kept s block x
+unfolding scanned fieldsStage stringsStage tablesStage
+scan-kept s block e =
+    let inside = chosen (leb block (length s)) _ _ e in
+    let below = chosen (leb block limit) _ _ (inside .1) in
+    let fields = went (view primitiveBlock (take block s)) _ (below .1) in
+    let top = blockFields (fields .value) in
+    let strings = went (view stringTable (stringBytes (take block s) top)) _ (fields .on) in
+    let room = chosen (leb (block + length (tables (take block s) top)) (length s)) _ _ (strings .on) in
+    record {
+      top = top;
+      strings = stringCount (strings .value);
+      read =
+          record {
+            before = record { inside = leb-true _ _ (inside .0); slots = fields .value; is = refl; so = fields .is };
+            slots = strings .value;
+            is = refl;
+            so = strings .is;
+          };
+      below = leb-true _ _ (below .0);
+      room = leb-true _ _ (room .0);
+      is = kept-same (sym (room .1));
+    }

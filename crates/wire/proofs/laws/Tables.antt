@@ -1,10 +1,10 @@
 -- Laws of what is written behind a block: what stays, and that one more entry is one more entry.
-use Prim.Native.Nat.{ℕ, zero, suc, _+_, _-_, _≤_, _<_}
-use mathlib.Core.Path.{_≡_, refl, sym, ap, _∙_, subst}
-use mathlib.Core.List.{List, [], _∷_, _++_, append-assoc, append-nil}
+use Prim.Native.Nat.{ℕ, _+_, _-_, _≤_}
+use mathlib.Core.Path.{_≡_, sym, ap, _∙_, subst}
+use mathlib.Core.List.{List, [], _++_, append-assoc, append-nil}
 use native.Mathlib.Nat.{add-zero}
 use native.Mathlib.Omega.{arith}
-use lib.ListN.{length, take, drop, length-append, length-take, length-drop, take-append-drop, drop-of-length-le}
+use lib.ListN.{length, take, drop, length-append, length-drop, take-append-drop, drop-of-length-le}
 use lib.Seq.{take-append-le, drop-append-le, take-at, drop-at, length-take-le, drop-drop, take-take, take-all}
 use Rattle.protobuf.proofs.laws.Part.{drop-take}
 use Rattle.wire.specs.Tables.{written}

@@ -1,8 +1,6 @@
 -- `take_message` makes the two tests of `infoPart`.
 use borrow.Author.Tests.{eq-eqb, ne-eqb}
 use Rattle.views.specs.View.{infoPart}
-use borrow.Author.Needs.{needs}
-use native.Mathlib.Omega.{arith}
 use Rattle.views.proofs.slot.take_message.Statement.{statement}
 use Rattle.views.proofs.slot.take_message.Tie as tie
 

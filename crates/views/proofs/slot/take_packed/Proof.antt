@@ -1,8 +1,6 @@
 -- `take_packed` makes the two tests of `columnPart`.
 use borrow.Author.Tests.{eq-eqb, ne-eqb}
 use Rattle.views.specs.View.{columnPart}
-use borrow.Author.Needs.{needs}
-use native.Mathlib.Omega.{arith}
 use Rattle.views.proofs.slot.take_packed.Statement.{statement}
 use Rattle.views.proofs.slot.take_packed.Tie as tie
 

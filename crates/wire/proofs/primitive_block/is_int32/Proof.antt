@@ -1,7 +1,5 @@
 -- `is_int32` makes the two tests of `isInt32`.
 use borrow.Author.Tests.{lt-ltb, le-ltb}
-use borrow.Author.Needs.{needs}
-use native.Mathlib.Omega.{arith}
 use Rattle.wire.proofs.primitive_block.is_int32.Statement.{statement}
 use Rattle.wire.proofs.primitive_block.is_int32.Tie as tie
 

@@ -1,0 +1,33 @@
+-- `check_column` is `count_values` without its number.
+use borrow.Author.Needs.{needs}
+use mathlib.Core.Path.{sym}
+use Rattle.protobuf.proofs.laws.Read.{says}
+use Rattle.wire.specs.Scan.{counted}
+use Rattle.block.proofs.laws.Onward.{on-refused, on-kept}
+use Rattle.block.proofs.counts.check_column.Statement.{statement}
+use Rattle.block.proofs.counts.check_column.Tie as tie
+
+count-values-requires : tie.Need-count-values-requires
+count-values-requires c κs = search needs
+
+enum-known-c : tie.Need-enum-known-c
+enum-known-c c = search needs
+
+enum-told : tie.Need-enum-told
+enum-told c = search needs
+
+returns : tie.Need-returns
+returns c = sym (on-refused _ (says counted (c .before .before .before .count-values .ensures) (c .before .c .given .1)))
+
+returns-2 : tie.Need-returns-2
+returns-2 c = sym (on-kept _ (says counted (c .before .before .count-values .ensures) (c .enum-told .given .1)))
+
+pub check-column-spec : {M : Type 1} → statement M
+check-column-spec =
+    tie.close
+    (tie.spec
+    count-values-requires
+    enum-known-c
+    enum-told
+    returns
+    returns-2)

@@ -1,0 +1,70 @@
+// Running sums: the values of a column of differences, each added to the sum of those before it. A message's columns start at 0.
+ghost use mathlib.Core.Path.{_≡_};
+ghost use Rattle.block.specs.Zip.{sum64Ahead, sum64Said, sum32Ahead, sum32Said};
+use protobuf::column::Column;
+use protobuf::column::Step;
+use protobuf::column::next_value;
+use protobuf::refusal::Refusal;
+use protobuf::signed::wrapping_add_i32;
+use protobuf::signed::wrapping_add_i64;
+use protobuf::signed::zigzag_i32;
+use protobuf::signed::zigzag_i64;
+
+// Where a reader of a sint64 column stands, and the sum up to there.
+pub struct Sum64 {
+    pub column: Column,
+    pub sum: i64,
+}
+
+pub enum Sum64Step {
+    // The state behind the value, which is its sum.
+    Value(Sum64),
+    Ended,
+    Refused(Refusal),
+}
+
+// The same of a sint32 column.
+pub struct Sum32 {
+    pub column: Column,
+    pub sum: i32,
+}
+
+pub enum Sum32Step {
+    Value(Sum32),
+    Ended,
+    Refused(Refusal),
+}
+
+// The next sum, wrapping at 64 bits.
+pub(crate) fn next_sum64(s: &[u8], state: Sum64) -> Sum64Step
+    ensures { λ r. ⌜ sum64Said (now (s .entry)) r ≡ sum64Ahead (now (s .entry)) state ⌝ }
+{
+    let column = state.column;
+    let before = state.sum;
+    let r = next_value(s, column);
+    match r {
+        Step::Ended => Sum64Step::Ended,
+        Step::Refused { refusal, next: _ } => Sum64Step::Refused(refusal),
+        Step::Value { value, next } => Sum64Step::Value(Sum64 {
+            column: next,
+            sum: wrapping_add_i64(before, zigzag_i64(value)),
+        }),
+    }
+}
+
+// The next sum, wrapping at 32 bits.
+pub(crate) fn next_sum32(s: &[u8], state: Sum32) -> Sum32Step
+    ensures { λ r. ⌜ sum32Said (now (s .entry)) r ≡ sum32Ahead (now (s .entry)) state ⌝ }
+{
+    let column = state.column;
+    let before = state.sum;
+    let r = next_value(s, column);
+    match r {
+        Step::Ended => Sum32Step::Ended,
+        Step::Refused { refusal, next: _ } => Sum32Step::Refused(refusal),
+        Step::Value { value, next } => Sum32Step::Value(Sum32 {
+            column: next,
+            sum: wrapping_add_i32(before, zigzag_i32(value)),
+        }),
+    }
+}
