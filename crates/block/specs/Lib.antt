@@ -9,5 +9,6 @@ pub mod Accept
 pub mod Strings
 pub mod Stored
 pub mod Listing
+pub mod Metadata
 pub mod Content
 pub mod Worked

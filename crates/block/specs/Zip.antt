@@ -102,7 +102,6 @@ placesAhead s lats lons = zip (sum64Ahead s lats) (sum64Ahead s lons)
 abbrev pub placesSaid : List ℕ → PlaceStep → Column (Both ℤ ℤ)
 placesSaid s (places.Place lats lons) = more (both (lats .sum) (lons .sum)) (placesAhead s lats lons)
 placesSaid s places.Ended = end ended
-placesSaid s places.Uneven = end (cut Counts)
 placesSaid s (places.Refused r) = end (cut r)
 
 abbrev pub rowsAhead : List ℕ → RowColumns → Column (Both ℤ (Both ℤ ℤ))
@@ -111,7 +110,6 @@ rowsAhead s c = zip (sum64Ahead s (c .ids)) (placesAhead s (c .lats) (c .lons))
 abbrev pub rowsSaid : List ℕ → RowStep → Column (Both ℤ (Both ℤ ℤ))
 rowsSaid s (rows.Row next) = more (both (next .ids .sum) (both (next .lats .sum) (next .lons .sum))) (rowsAhead s next)
 rowsSaid s rows.Ended = end ended
-rowsSaid s rows.Uneven = end (cut Counts)
 rowsSaid s (rows.Refused r) = end (cut r)
 
 -- ---- the info of dense nodes

@@ -28,8 +28,8 @@ fn check_ranges(buffer: &[u8], block: WireBlock) -> Checked
 {
     let mut i = 0;
     while i < block.groups {
-        let g = group(buffer, block, i);
-        match g {
+        let named = group(buffer, block, i);
+        match named {
             GroupRange::Refused(n) => return Checked::Refused(n),
             GroupRange::Range(_) => i += 1,
         }

@@ -66,8 +66,6 @@ pub enum RowStep {
     // The state behind the node, whose id and raw position are its sums.
     Row(RowColumns),
     Ended,
-    // Only some have ended: 12, but for what is read in between.
-    Uneven,
     Refused(Refusal),
 }
 
@@ -75,7 +73,6 @@ pub enum RowStep {
 pub enum PlaceStep {
     Place { lats: Sum64, lons: Sum64 },
     Ended,
-    Uneven,
     Refused(Refusal),
 }
 
@@ -191,11 +188,11 @@ fn next_place(s: &[u8], lats: Sum64, lons: Sum64) -> PlaceStep
         Sum64Step::Ended => match o {
             Sum64Step::Refused(refusal) => PlaceStep::Refused(refusal),
             Sum64Step::Ended => PlaceStep::Ended,
-            Sum64Step::Value(_) => PlaceStep::Uneven,
+            Sum64Step::Value(_) => PlaceStep::Refused(Refusal::Counts),
         },
         Sum64Step::Value(next) => match o {
             Sum64Step::Refused(refusal) => PlaceStep::Refused(refusal),
-            Sum64Step::Ended => PlaceStep::Uneven,
+            Sum64Step::Ended => PlaceStep::Refused(Refusal::Counts),
             Sum64Step::Value(behind) => PlaceStep::Place {
                 lats: next,
                 lons: behind,
@@ -218,13 +215,11 @@ pub(crate) fn next_row(s: &[u8], columns: RowColumns) -> RowStep
         Sum64Step::Ended => match p {
             PlaceStep::Refused(refusal) => RowStep::Refused(refusal),
             PlaceStep::Ended => RowStep::Ended,
-            PlaceStep::Uneven => RowStep::Uneven,
-            PlaceStep::Place { lats: _, lons: _ } => RowStep::Uneven,
+            PlaceStep::Place { lats: _, lons: _ } => RowStep::Refused(Refusal::Counts),
         },
         Sum64Step::Value(ids) => match p {
             PlaceStep::Refused(refusal) => RowStep::Refused(refusal),
-            PlaceStep::Ended => RowStep::Uneven,
-            PlaceStep::Uneven => RowStep::Uneven,
+            PlaceStep::Ended => RowStep::Refused(Refusal::Counts),
             PlaceStep::Place { lats, lons } => RowStep::Row(RowColumns { ids, lats, lons }),
         },
     }

@@ -20,12 +20,12 @@ loop-holds c = entries-begin _ _ _
 group-requires : tie.Need-group-requires Inv-loop μ-loop
 group-requires c κs = search needs
 
-enum-known-g : tie.Need-enum-known-g Inv-loop μ-loop
-enum-known-g c = search needs
+enum-known-named : tie.Need-enum-known-named Inv-loop μ-loop
+enum-known-named c = search needs
 
 returns : tie.Need-returns Inv-loop μ-loop
 returns c =
-    sym (entries-refused (c .before .before .before .before .before .before .loop .inv) (c .before .before .before .before .if1 .taken) (range-refused _ _ _ (c .before .before .before .before .before .before .before .before .pre) (c .before .before .before .before .if1 .taken) (sym (c .before .before .before .group .ensures) ∙ c .before .g .given .1)))
+    sym (entries-refused (c .before .before .before .before .before .before .loop .inv) (c .before .before .before .before .if1 .taken) (range-refused _ _ _ (c .before .before .before .before .before .before .before .before .pre) (c .before .before .before .before .if1 .taken) (sym (c .before .before .before .group .ensures) ∙ c .before .named .given .1)))
 
 enum-told : tie.Need-enum-told Inv-loop μ-loop
 enum-told c = search needs
@@ -51,7 +51,7 @@ check-ranges-spec =
     μ-loop
     loop-holds
     group-requires
-    enum-known-g
+    enum-known-named
     returns
     enum-told
     add-i

@@ -28,20 +28,14 @@ enum-told-2 c = search needs
 enum-told-3 : tie.Need-enum-told-3
 enum-told-3 c = search needs
 
-enum-told-4 : tie.Need-enum-told-4
-enum-told-4 c = search needs
-
 enum-known-i-2 : tie.Need-enum-known-i-2
 enum-known-i-2 c = search needs
 
 enum-known-p-2 : tie.Need-enum-known-p-2
 enum-known-p-2 c = search needs
 
-enum-told-5 : tie.Need-enum-told-5
-enum-told-5 c = search needs
-
-enum-told-6 : tie.Need-enum-told-6
-enum-told-6 c = search needs
+enum-told-4 : tie.Need-enum-told-4
+enum-told-4 c = search needs
 
 enum-known-p-3 : tie.Need-enum-known-p-3
 enum-known-p-3 c = search needs
@@ -67,34 +61,22 @@ returns-4 : tie.Need-returns-4
 returns-4 c =
     let d = c .before .before in
     let b = d .before .before in
-    sym (zip-ended (says (sum64Said _) (b .before .next-sum64 .ensures) (d .enum-told .given .1)) (says (placesSaid _) (b .next-place .ensures) (c .enum-told3 .given .1)))
+    sym (zip-ended-more (says (sum64Said _) (b .before .next-sum64 .ensures) (d .enum-told .given .1)) (says (placesSaid _) (b .next-place .ensures) (c .enum-told3 .given .1)))
 
 returns-5 : tie.Need-returns-5
 returns-5 c =
-    let d = c .before .before in
-    let b = d .before .before in
-    sym (zip-ended-more (says (sum64Said _) (b .before .next-sum64 .ensures) (d .enum-told .given .1)) (says (placesSaid _) (b .next-place .ensures) (c .enum-told4 .given .1)))
-
-returns-6 : tie.Need-returns-6
-returns-6 c =
     let d = c .before .before .before in
     let b = d .before .before .before in
     sym (zip-more-cut (says (sum64Said _) (b .before .next-sum64 .ensures) (d .before .i2 .given .1)) (says (placesSaid _) (b .next-place .ensures) (c .before .p2 .given .1)))
 
+returns-6 : tie.Need-returns-6
+returns-6 c =
+    let d = c .before .before in
+    let b = d .before .before .before in
+    sym (zip-more-ended (says (sum64Said _) (b .before .next-sum64 .ensures) (d .before .i2 .given .1)) (says (placesSaid _) (b .next-place .ensures) (c .enum-told4 .given .1)))
+
 returns-7 : tie.Need-returns-7
 returns-7 c =
-    let d = c .before .before in
-    let b = d .before .before .before in
-    sym (zip-more-ended (says (sum64Said _) (b .before .next-sum64 .ensures) (d .before .i2 .given .1)) (says (placesSaid _) (b .next-place .ensures) (c .enum-told5 .given .1)))
-
-returns-8 : tie.Need-returns-8
-returns-8 c =
-    let d = c .before .before in
-    let b = d .before .before .before in
-    sym (zip-more-cut (says (sum64Said _) (b .before .next-sum64 .ensures) (d .before .i2 .given .1)) (says (placesSaid _) (b .next-place .ensures) (c .enum-told6 .given .1)))
-
-returns-9 : tie.Need-returns-9
-returns-9 c =
     let d = c .before .before .before in
     let b = d .before .before .before in
     sym (zip-more (says (sum64Said _) (b .before .next-sum64 .ensures) (d .before .i2 .given .1)) (says (placesSaid _) (b .next-place .ensures) (c .before .p3 .given .1)))
@@ -110,11 +92,9 @@ next-row-spec =
     enum-known-p
     enum-told-2
     enum-told-3
-    enum-told-4
     enum-known-i-2
     enum-known-p-2
-    enum-told-5
-    enum-told-6
+    enum-told-4
     enum-known-p-3
     returns
     returns-2
@@ -122,6 +102,4 @@ next-row-spec =
     returns-4
     returns-5
     returns-6
-    returns-7
-    returns-8
-    returns-9)
+    returns-7)
