@@ -1,4 +1,5 @@
-/* Reads a block: its strings, its groups with their kinds, and of each way its id and where its references stand. C99 and C++11. */
+/* Checks a block and reads it: its strings, its groups with their kinds, and of each way its id and where its references stand. C99 and
+ * C++11. */
 #include "nuorpyts.h"
 
 #include <stdio.h>
@@ -82,6 +83,9 @@ int main(void) {
         buffer[i] = map_block[i];
     }
     code = nuorpyts_scan(buffer, sizeof buffer, sizeof map_block, record, sizeof record);
+    if (code == NUORPYTS_OK) {
+        code = nuorpyts_check(buffer, sizeof buffer, record, sizeof record);
+    }
     if (code != NUORPYTS_OK) {
         printf("refused with %u\n", (unsigned)code);
         return 1;

@@ -96,6 +96,16 @@ uint32_t nuorpyts_get(const uint8_t *buffer, size_t buffer_len, const uint8_t *r
  * Writes: the 16 bytes. */
 uint32_t nuorpyts_group(const uint8_t *buffer, size_t buffer_len, const uint8_t *record, size_t record_len, size_t index, uint8_t *out, size_t out_len);
 
+/* Says whether a scanned block may be walked.
+ * Takes: the record's bytes as nuorpyts_scan gave them.
+ * Gives: nothing but the code. On what nuorpyts_scan left, the code is by the block's bytes alone.
+ * Refuses: 14 where `record` is shorter than 72 bytes or has a granularity that is no int32, the block or a table of the record passes the
+ * buffer, or the range of any group does; then the first met in reading order: in each group 2 to 7 and 11 over its own fields, then in its
+ * dense message, its nodes, its ways and its relations 2 to 7 where a field or a column cannot be read, 9 at a second column that is not
+ * empty, 10 at a second info that is not empty, and 12 where columns that go together differ in count.
+ * Writes: nothing. */
+uint32_t nuorpyts_check(const uint8_t *buffer, size_t buffer_len, const uint8_t *record, size_t record_len);
+
 /* Says what kind of elements a group holds, by its first byte.
  * Takes: the group's range, as nuorpyts_group gave it.
  * Gives: the kind, in 8 bytes of `out`.

@@ -3,4 +3,5 @@ pub mod Words
 pub mod Filled
 pub mod Codes
 pub mod Block
+pub mod Check
 pub mod Messages

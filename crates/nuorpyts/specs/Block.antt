@@ -20,8 +20,8 @@ use Rattle.views.specs.View.{isInt32}
 use Rattle.wire.specs.Tables.{written}
 use Rattle.wire.specs.Lookup.{getAt, groupAt}
 use Rattle.views.specs.Classify.{blockType}
-use Rattle.nuorpyts.specs.declared.block.RecordIn.{RecordIn}
-use Rattle.nuorpyts.specs.declared.block.RecordIn.the-variants as read
+use Rattle.nuorpyts.specs.declared.blocks.RecordIn.{RecordIn}
+use Rattle.nuorpyts.specs.declared.blocks.RecordIn.the-variants as read
 use Rattle.nuorpyts.specs.Words.{words, wordAt, signedWord}
 use Rattle.nuorpyts.specs.Codes.{noneCode}
 

@@ -2,4 +2,5 @@
 pub mod Words
 pub mod Codes
 pub mod Block
+pub mod Check
 pub mod Views

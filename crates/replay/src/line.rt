@@ -32,7 +32,9 @@ pub(crate) const DENSEPASS: usize = 13;
 
 pub(crate) const MESSAGES: usize = 14;
 
-pub(crate) const KINDS: usize = 15;
+pub(crate) const CHECK: usize = 15;
+
+pub(crate) const KINDS: usize = 16;
 
 // The most bytes of a question.
 pub(crate) const BYTES: usize = 4096;
@@ -91,8 +93,8 @@ pub(crate) fn find(s: &[u8], from: usize, byte: u8) -> usize {
 }
 
 // The names of the kinds, in the order of their numbers, and behind them that of the totals.
-fn names() -> [u8; 105] {
-    *b"varint field column scan get group classify node way relation dense denseinfo info densepass messages all"
+fn names() -> [u8; 111] {
+    *b"varint field column scan get group classify node way relation dense denseinfo info densepass messages check all"
 }
 
 // The number of a name, KINDS where it is none of them.

@@ -1,7 +1,7 @@
 // Replays the fixed list of answers: each line's question is asked of the proved functions, and what they answer is compared, as text,
 // with the answer in the line. Prints the lines that differ, a line for each kind of question, document 01's examples that have no star,
 // and the totals.
-mod block;
+mod blocks;
 mod leaf;
 mod line;
 mod messages;
@@ -10,17 +10,19 @@ mod text;
 
 ghost use mathlib.Core.Path.{_≡_};
 ghost use lib.ListN.{length};
-use block::ask_classify;
-use block::ask_densepass;
-use block::ask_get;
-use block::ask_group;
-use block::ask_messages;
-use block::ask_scan;
-use block::record_of;
+use blocks::ask_check;
+use blocks::ask_classify;
+use blocks::ask_densepass;
+use blocks::ask_get;
+use blocks::ask_group;
+use blocks::ask_messages;
+use blocks::ask_scan;
+use blocks::record_of;
 use leaf::ask_column;
 use leaf::ask_field;
 use leaf::ask_varint;
 use line::BYTES;
+use line::CHECK;
 use line::CLASSIFY;
 use line::COLUMN;
 use line::DENSE;
@@ -126,6 +128,29 @@ fn ask_message(
     }
 }
 
+// Whether a question is on a block, which is scanned and so stands at the start of its buffer.
+fn is_on_block(kind: usize) -> bool {
+    match kind {
+        SCAN | CHECK => true,
+        _ => false,
+    }
+}
+
+// A question on a block of `len` bytes at the start of the array, by its kind.
+fn ask_block(
+    out: &mut [u8; ROOM],
+    buf: &mut [u8; BYTES],
+    len: usize,
+    kind: usize,
+    n: Numbers,
+) -> Said {
+    match kind {
+        SCAN => ask_scan(out, buf, n.a, n.b),
+        CHECK => ask_check(out, buf, len),
+        _ => whole(0),
+    }
+}
+
 // Whether a question is on a message at a place.
 fn is_on_message(kind: usize) -> bool {
     NODE <= kind
@@ -148,15 +173,15 @@ fn ask_part(
     }
 }
 
-// The question of a line, whose bytes stand at `ahead` in an array that is filled up around them; a scan's stand at its start. No text
+// The question of a line, whose bytes stand at `ahead` in an array that is filled up around them; a block's stand at its start. No text
 // where the bytes cannot be read.
 fn ask(out: &mut [u8; ROOM], line: &[u8], kind: usize, n: Numbers, ahead: usize) -> Said {
     let mut buf = [0xa5u8; BYTES];
     let digits = digits_of(line);
-    if kind == SCAN {
+    if is_on_block(kind) {
         let len = decode(digits, &mut buf, 0);
         if is_decoded(digits, len) {
-            ask_scan(out, &mut buf, n.a, n.b)
+            ask_block(out, &mut buf, len, kind, n)
         } else {
             whole(0)
         }

@@ -6,7 +6,7 @@ use crate::line::print_name;
 use crate::text::print;
 use crate::text::print_number;
 
-pub(crate) const COUNTS: usize = 272;
+pub(crate) const COUNTS: usize = 288;
 
 // Places within the 16 of a kind.
 const ASKED: usize = 0;
@@ -17,7 +17,7 @@ const AGREED: usize = 15;
 const ALL: usize = KINDS;
 
 // The number of the last 16, and the places within them.
-pub(crate) const LINES: usize = 16;
+pub(crate) const LINES: usize = 17;
 
 pub(crate) const NOT_ASKED: usize = 0;
 
@@ -35,7 +35,7 @@ pub(crate) const GROUP_REFUSED: usize = 6;
 
 // The place of a count in the array; COUNTS, which is none, where there is no such count.
 fn place(kind: usize, count: usize) -> usize {
-    if 16 < kind {
+    if LINES < kind {
         return COUNTS;
     }
     if 15 < count {

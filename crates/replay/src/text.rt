@@ -56,7 +56,7 @@ pub(crate) fn put(out: &mut [u8; ROOM], at: usize, byte: u8) -> usize {
 }
 
 // Bytes as they are.
-fn put_text(out: &mut [u8; ROOM], at: usize, s: &[u8]) -> usize {
+pub(crate) fn put_text(out: &mut [u8; ROOM], at: usize, s: &[u8]) -> usize {
     let mut end = at;
     let mut i = 0;
     while i < s.len() {

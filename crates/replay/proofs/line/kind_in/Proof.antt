@@ -8,7 +8,7 @@ abbrev Inv-loop : tie.InvT-loop
 Inv-loop names name from₀ kind₀ from kind = Unit {0}
 
 abbrev μ-loop : tie.MeasureT-loop
-μ-loop names name from₀ kind₀ from kind = 15 - kind
+μ-loop names name from₀ kind₀ from kind = 16 - kind
 
 loop-holds : tie.Need-loop-holds Inv-loop μ-loop
 loop-holds c = search needs

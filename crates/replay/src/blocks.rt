@@ -1,5 +1,6 @@
-// The questions on a block and a group: the scan, a string and a group by number, a group's kind, its dense message, its messages.
+// The questions on a block and a group: the scan, the check, a string and a group by number, a group's kind, its dense message, its messages.
 use crate::line::BYTES;
+use crate::line::plus;
 use crate::text::ROOM;
 use crate::text::Said;
 use crate::text::accept;
@@ -12,10 +13,14 @@ use crate::text::put_sign;
 use crate::text::put_signed;
 use crate::text::put_signed32;
 use crate::text::put_size;
+use crate::text::put_text;
 use crate::text::refuse;
 use crate::text::start_of;
 use crate::text::stop_steps;
 use crate::text::whole;
+use block::check::Checked;
+use block::check::check;
+use protobuf::refusal::Refusal;
 use views::classify::BlockType;
 use views::classify::classify_group;
 use views::group::DenseFound;
@@ -73,6 +78,47 @@ pub(crate) fn ask_scan(
     n: usize,
 ) -> Said {
     scan_first(out, buffer, block, n)
+}
+
+// What the check says of a scanned block.
+fn check_scanned(out: &mut [u8; ROOM], s: &[u8], block: WireBlock) -> Said {
+    let r = check(s, block);
+    match r {
+        Checked::Accepted => whole(accept(out)),
+        Checked::Refused(n) => refuse(out, 0, n),
+    }
+}
+
+// The answer where the block could not be scanned.
+fn unscanned(out: &mut [u8; ROOM], n: Refusal) -> Said {
+    let end = put_text(out, 0, b" unscanned");
+    refuse(out, end, n)
+}
+
+// The place behind a table; of one that is longer than the array, a place that is not in it.
+fn behind_table(table: usize, count: usize) -> usize {
+    if BYTES < count {
+        count
+    } else {
+        plus(table, 8 * count)
+    }
+}
+
+// The block in the first `block` bytes of a buffer, scanned there. Behind its tables the buffer is cut off.
+fn check_whole(out: &mut [u8; ROOM], buffer: &mut [u8], block: usize) -> Said {
+    let r = scan(buffer, block);
+    match r {
+        BlockScan::Refused(n) => unscanned(out, n),
+        BlockScan::Scanned(record) => {
+            let end = behind_table(record.grouptable, record.groups);
+            check_scanned(out, cut(buffer, 0, end), record)
+        }
+    }
+}
+
+// The same in the array that holds the question's bytes.
+pub(crate) fn ask_check(out: &mut [u8; ROOM], buffer: &mut [u8; BYTES], block: usize) -> Said {
+    check_whole(out, buffer, block)
 }
 
 // A record that says where the tables are.

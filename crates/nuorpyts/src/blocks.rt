@@ -53,7 +53,7 @@ const RANGE: usize = 16;
 const NUMBER: usize = 8;
 
 // What a slice is as a record.
-enum RecordIn {
+pub(crate) enum RecordIn {
     Record(WireBlock),
     Outside,
 }
@@ -98,7 +98,7 @@ fn is_int32(v: u64) -> bool
 }
 
 // The record in the slice's first 72 bytes: none where it is shorter or a granularity is no int32.
-fn record_in(s: &[u8]) -> RecordIn
+pub(crate) fn record_in(s: &[u8]) -> RecordIn
     ensures { λ r. ⌜ recordOf r ≡ recordIn (now (s .entry)) ⌝ }
 {
     if s.len() < RECORD {

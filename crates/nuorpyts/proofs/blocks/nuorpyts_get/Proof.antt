@@ -5,8 +5,8 @@ use Rattle.nuorpyts.specs.Block.{recordOf}
 use Rattle.nuorpyts.proofs.laws.Codes.{too-short}
 use Rattle.nuorpyts.proofs.laws.Block.{get-no-record, get-with-record, got-answer}
 use borrow.Author.Needs.{needs}
-use Rattle.nuorpyts.proofs.block.nuorpyts_get.Statement.{statement}
-use Rattle.nuorpyts.proofs.block.nuorpyts_get.Tie as tie
+use Rattle.nuorpyts.proofs.blocks.nuorpyts_get.Statement.{statement}
+use Rattle.nuorpyts.proofs.blocks.nuorpyts_get.Tie as tie
 
 returns : tie.Need-returns
 returns c =

@@ -7,8 +7,8 @@ use Rattle.views.specs.Outcome.{kept}
 use Rattle.wire.proofs.laws.Lookup.{refuted, confirmed}
 use Rattle.nuorpyts.proofs.laws.Block.{record-short, no-granularity, no-dategranularity, record-kept}
 use borrow.Author.Needs.{needs}
-use Rattle.nuorpyts.proofs.block.record_in.Statement.{statement}
-use Rattle.nuorpyts.proofs.block.record_in.Tie as tie
+use Rattle.nuorpyts.proofs.blocks.record_in.Statement.{statement}
+use Rattle.nuorpyts.proofs.blocks.record_in.Tie as tie
 
 returns : tie.Need-returns
 returns c = record-short _ (c .if1 .taken)

@@ -1,7 +1,7 @@
 -- `is_int32` makes the two tests of `isInt32` in its order.
 use borrow.Author.Tests.{lt-ltb, le-ltb}
-use Rattle.nuorpyts.proofs.block.is_int32.Statement.{statement}
-use Rattle.nuorpyts.proofs.block.is_int32.Tie as tie
+use Rattle.nuorpyts.proofs.blocks.is_int32.Statement.{statement}
+use Rattle.nuorpyts.proofs.blocks.is_int32.Tie as tie
 
 returns : tie.Need-returns
 returns c = rw (lt-ltb (c .before .args .v) 2147483648 (c .if1 .taken))

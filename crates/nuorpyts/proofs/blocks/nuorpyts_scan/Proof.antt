@@ -5,8 +5,8 @@ use Rattle.wire.specs.Scan.{scannedRecord}
 use Rattle.nuorpyts.specs.Block.{recordWords}
 use Rattle.nuorpyts.proofs.laws.Codes.{too-short, long-enough, answer-kept, answer-refused}
 use borrow.Author.Needs.{needs}
-use Rattle.nuorpyts.proofs.block.nuorpyts_scan.Statement.{statement}
-use Rattle.nuorpyts.proofs.block.nuorpyts_scan.Tie as tie
+use Rattle.nuorpyts.proofs.blocks.nuorpyts_scan.Statement.{statement}
+use Rattle.nuorpyts.proofs.blocks.nuorpyts_scan.Tie as tie
 
 returns : tie.Need-returns
 returns c =

@@ -5,8 +5,8 @@ use Rattle.nuorpyts.specs.Block.{recordOf, rangeWords}
 use Rattle.nuorpyts.proofs.laws.Codes.{too-short, answer-kept, answer-refused}
 use Rattle.nuorpyts.proofs.laws.Block.{group-no-record, group-with-record}
 use borrow.Author.Needs.{needs}
-use Rattle.nuorpyts.proofs.block.nuorpyts_group.Statement.{statement}
-use Rattle.nuorpyts.proofs.block.nuorpyts_group.Tie as tie
+use Rattle.nuorpyts.proofs.blocks.nuorpyts_group.Statement.{statement}
+use Rattle.nuorpyts.proofs.blocks.nuorpyts_group.Tie as tie
 
 returns : tie.Need-returns
 returns c =

@@ -1,8 +1,8 @@
 -- `ask_messages` is safe and ends. Nothing has to hold from turn to turn; the measure is the steps that are left. Assumes nothing.
 use borrow.Author.Needs.{needs}
 use Prim.Native.Nat.{_-_}
-use Rattle.replay.proofs.block.ask_messages.Statement.{statement}
-use Rattle.replay.proofs.block.ask_messages.Tie as tie
+use Rattle.replay.proofs.blocks.ask_messages.Statement.{statement}
+use Rattle.replay.proofs.blocks.ask_messages.Tie as tie
 
 abbrev Inv-loop : tie.InvT-loop
 Inv-loop out₀ s start len field place₀ end₀ steps₀ out place end steps = Unit {0}

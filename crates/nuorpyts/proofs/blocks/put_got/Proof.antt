@@ -2,8 +2,8 @@
 use mathlib.Core.Path.{_∙_, sym, ap}
 use Rattle.nuorpyts.specs.Block.{gotCode, gotAfter}
 use borrow.Author.Needs.{needs}
-use Rattle.nuorpyts.proofs.block.put_got.Statement.{statement}
-use Rattle.nuorpyts.proofs.block.put_got.Tie as tie
+use Rattle.nuorpyts.proofs.blocks.put_got.Statement.{statement}
+use Rattle.nuorpyts.proofs.blocks.put_got.Tie as tie
 
 enum-known-got : tie.Need-enum-known-got
 enum-known-got c = search needs

@@ -5,8 +5,8 @@ use borrow.Author.Needs.{needs}
 use Rattle.protobuf.proofs.laws.Machine.{passed}
 use Rattle.nuorpyts.proofs.laws.Words.{widened, wide-bits}
 use Rattle.nuorpyts.proofs.laws.Block.{record-written}
-use Rattle.nuorpyts.proofs.block.put_record.Statement.{statement}
-use Rattle.nuorpyts.proofs.block.put_record.Tie as tie
+use Rattle.nuorpyts.proofs.blocks.put_record.Statement.{statement}
+use Rattle.nuorpyts.proofs.blocks.put_record.Tie as tie
 
 put-three-requires : tie.Need-put-three-requires
 put-three-requires c κs = search needs

@@ -11,8 +11,8 @@ use Rattle.nuorpyts.proofs.laws.Codes.{too-short, answer-kept, answer-r
 use Rattle.nuorpyts.proofs.laws.Words.{first-word}
 use Rattle.nuorpyts.proofs.laws.Block.{kind-outside, kind-kept}
 use borrow.Author.Needs.{needs}
-use Rattle.nuorpyts.proofs.block.nuorpyts_classify.Statement.{statement}
-use Rattle.nuorpyts.proofs.block.nuorpyts_classify.Tie as tie
+use Rattle.nuorpyts.proofs.blocks.nuorpyts_classify.Statement.{statement}
+use Rattle.nuorpyts.proofs.blocks.nuorpyts_classify.Tie as tie
 
 returns : tie.Need-returns
 returns c =
