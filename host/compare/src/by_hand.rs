@@ -127,7 +127,34 @@ pub fn blocks() -> Vec<Vec<u8>> {
     let mut blocks = bytes(&BLOCKS);
     blocks.extend([nested(16), nested(17)]);
     blocks.extend((0..12).map(every_kind));
+    blocks.extend([long_string(), long_group()]);
     blocks
+}
+
+/// Two strings and a way. Places and lengths of 256 and more take two bytes of
+/// a table entry: the first string is as long, the rest stands behind it.
+fn long_string() -> Vec<u8> {
+    let strings = [len_field(1, &[b'a'; 258]), len_field(1, b"k")].concat();
+    let way = len_field(3, &tagged(&[1]));
+    [len_field(1, &strings), len_field(2, &way)].concat()
+}
+
+/// The same of groups: the first one is as long, with a field that no view
+/// knows, and the second one and the string stand behind it.
+fn long_group() -> Vec<u8> {
+    let node = len_field(1, &tagged(&[0]));
+    let strings = len_field(1, b"k");
+    [
+        len_field(2, &len_field(15, &[b'a'; 255])),
+        len_field(2, &node),
+        len_field(1, &strings),
+    ]
+    .concat()
+}
+
+/// An element whose keys are its vals.
+fn tagged(strings: &[u8]) -> Vec<u8> {
+    [len_field(2, strings), len_field(3, strings)].concat()
 }
 
 /// Blocks with one message, of every kind, that is refused: where in the

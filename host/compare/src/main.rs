@@ -12,11 +12,13 @@ mod by_hand;
 #[cfg_attr(not(feature = "published"), path = "without_published.rs")]
 mod by_published;
 mod by_reader;
+mod first_met;
 mod judge;
 mod known;
 mod list;
 mod maps;
 mod opl;
+mod outside;
 mod pairs;
 mod question;
 mod samples;

@@ -1,14 +1,19 @@
 //! Real maps: each .osm.pbf file of a folder, with the .opl file beside it
-//! that osmium printed of it. Its blocks go through the whole comparison, and
-//! its plain listing equals the OPL lines, element by element.
+//! that osmium printed of it. Its blocks go through the whole comparison, every
+//! side accepts them, and its plain listing equals the OPL lines, element by
+//! element.
 
 use std::path::{Path, PathBuf};
 use std::{fs, io};
 
 use generate::primitive_blocks;
 
+use crate::by_c;
+use crate::by_published;
+use crate::by_reader;
 use crate::judge::Judge;
 use crate::opl;
+use crate::question::Ask;
 
 /// All maps of the folder, by name; their blocks come back for the sweep.
 pub fn judge(folder: &Path, judge: &mut Judge) -> Result<Vec<Vec<u8>>, String> {
@@ -24,9 +29,11 @@ pub fn judge(folder: &Path, judge: &mut Judge) -> Result<Vec<Vec<u8>>, String> {
         let blocks = primitive_blocks(&file).map_err(|e| format!("{name}: {e}"))?;
         let elements = listing_is_opl(&name, &blocks, &lines, judge);
         blocks.iter().for_each(|block| judge.block(block));
+        let accepted = accepted_by_all(&name, &blocks, judge);
         println!(
-            "map {name}: {} blocks, {elements} elements as osmium prints them",
-            blocks.len()
+            "map {name}: {} blocks, {accepted} accepted {}, {elements} elements as osmium prints them",
+            blocks.len(),
+            sides(),
         );
         all.extend(blocks);
     }
@@ -47,6 +54,37 @@ fn maps(folder: &Path) -> io::Result<Vec<PathBuf>> {
 
 fn opl_of(path: &Path) -> PathBuf {
     PathBuf::from(path.to_string_lossy().replace(".osm.pbf", ".opl"))
+}
+
+/// The sides that have to accept the blocks of a map: those at hand.
+fn sides() -> String {
+    let mut sides = vec!["by the reader"];
+    if by_published::COMMIT.is_some() {
+        sides.push("by the published Rust");
+    }
+    if by_c::LINKED {
+        sides.push("through C");
+    }
+    sides.join(", ")
+}
+
+/// How many blocks every side accepts; each other one counts as a difference.
+fn accepted_by_all(name: &str, blocks: &[Vec<u8>], judge: &mut Judge) -> usize {
+    let refused: Vec<&Vec<u8>> = blocks.iter().filter(|block| !is_accepted(block)).collect();
+    for block in &refused {
+        let how = " is not accepted by all sides";
+        judge.tally.broken(name, block, how);
+    }
+    blocks.len() - refused.len()
+}
+
+/// The published Rust has two verdicts: its own, and its parsers in the order
+/// of the check.
+fn is_accepted(block: &[u8]) -> bool {
+    by_reader::verdict(block) == 0
+        && by_published::composed_check(block).is_none_or(|verdict| verdict == "0")
+        && by_published::validate_groups(block).is_none_or(|verdict| verdict.is_ok())
+        && by_c::answer(Ask::Check, block).is_none_or(|verdict| verdict == "0")
 }
 
 /// How many elements are equal; each that is not counts as a difference.

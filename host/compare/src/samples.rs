@@ -1,7 +1,8 @@
 //! The questions of the fixed list: about inputs made by hand, about document
-//! 01's field examples, about what lies outside, and about a sample of the
-//! generator's blocks and payloads, a few for each question and number, so
-//! that every refusal that a small input can meet stands in the list.
+//! 01's field examples, about which of two refusals the check meets first,
+//! about what lies outside, and about a sample of the generator's blocks and
+//! payloads, a few for each question and number, so that every refusal that a
+//! small input can meet stands in the list.
 
 use std::collections::BTreeMap;
 
@@ -9,9 +10,11 @@ use generate::{examples, for_each_payload, structured};
 
 use crate::by_hand;
 use crate::by_reader;
+use crate::first_met;
 use crate::judge::number_of;
 use crate::known::KNOWN;
-use crate::question::{Ask, PAYLOAD, Places, lookups};
+use crate::outside;
+use crate::question::{Ask, PAYLOAD, lookups};
 use crate::text::parse_bytes;
 
 /// A question and the bytes it is asked about.
@@ -43,10 +46,11 @@ pub fn questions() -> Vec<Question> {
     for block in by_hand::blocks_with_a_refused_message()
         .into_iter()
         .chain(known)
+        .chain(first_met::blocks())
     {
         about_scanned(&block, &mut list);
     }
-    outside(&mut list);
+    outside::questions(&mut list);
     generated(&mut list);
     once(list)
 }
@@ -85,81 +89,6 @@ fn about_block(block: &[u8], list: &mut Vec<Question>) {
 fn about_scanned(block: &[u8], list: &mut Vec<Question>) {
     if by_reader::open(block).is_ok() {
         list.extend([Ask::Check, Ask::Plain, Ask::Full].map(|ask| (ask, block.to_vec())));
-    }
-}
-
-/// What lies outside the buffer.
-fn outside(list: &mut Vec<Question>) {
-    let block = vec![0x12, 0x00];
-    for (len, room) in [(3, 2), (2, 1), (u64::MAX, 12), (33_554_433, 12), (2, 10)] {
-        list.push((Ask::Scan { len, room }, block.clone()));
-    }
-    // Three entries: inside, at the buffer's end, one past it.
-    let entries = [4u32, 5, 24, 0, 8, 17];
-    let table: Vec<u8> = entries.iter().flat_map(|n| n.to_le_bytes()).collect();
-    strings_outside(&table, list);
-    groups_outside(&table, list);
-}
-
-fn strings_outside(table: &[u8], list: &mut Vec<Question>) {
-    let far = u64::MAX;
-    let places = [0, 8, 16, 17, 24, far];
-    for place in places {
-        for (count, index) in [(2, 0), (2, 1), (1, 1), (far, far - 1)] {
-            list.push((
-                Ask::Get {
-                    place,
-                    count,
-                    index,
-                },
-                table.to_vec(),
-            ));
-        }
-    }
-}
-
-fn groups_outside(table: &[u8], list: &mut Vec<Question>) {
-    let inside = Places {
-        block_len: 0,
-        string_table: 0,
-        string_count: 1,
-        group_table: 8,
-        group_count: 2,
-    };
-    for record in [
-        inside,
-        Places {
-            block_len: 24,
-            ..inside
-        },
-        Places {
-            block_len: 25,
-            ..inside
-        },
-        Places {
-            string_table: 16,
-            ..inside
-        },
-        Places {
-            string_table: 17,
-            ..inside
-        },
-        Places {
-            string_count: u64::MAX,
-            ..inside
-        },
-        Places {
-            group_table: 9,
-            ..inside
-        },
-        Places {
-            group_count: 3,
-            ..inside
-        },
-    ] {
-        for index in [0, 1, 2] {
-            list.push((Ask::Group { record, index }, table.to_vec()));
-        }
     }
 }
 

@@ -24,6 +24,12 @@ unsafe extern "C" {
         record: *mut u8,
         record_len: usize,
     ) -> u32;
+    fn nuorpyts_check(
+        buffer: *const u8,
+        buffer_len: usize,
+        record: *const u8,
+        record_len: usize,
+    ) -> u32;
     fn nuorpyts_message(
         buffer: *const u8,
         buffer_len: usize,
@@ -42,6 +48,18 @@ pub fn scan(buffer: &mut [u8], block: usize, record: &mut [u8]) -> u32 {
             buffer.as_mut_ptr(),
             buffer.len(),
             block,
+            record.as_mut_ptr(),
+            record.len(),
+        )
+    }
+}
+
+/// Checks all groups of a scanned buffer: 0 where the block is accepted.
+pub fn check(buffer: &mut [u8], record: &mut [u8]) -> u32 {
+    unsafe {
+        nuorpyts_check(
+            buffer.as_mut_ptr(),
+            buffer.len(),
             record.as_mut_ptr(),
             record.len(),
         )

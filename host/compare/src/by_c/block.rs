@@ -4,16 +4,12 @@ use proved::ByRecord;
 
 use super::faults::Faults;
 use super::lent::Lent;
+use super::record::{self, RECORD};
 use super::shape::{Item, bytes as bytes_of, put};
 use super::told::{OUTSIDE, Told, told};
 use crate::question::{Places, scan_buffer};
 use crate::text::Words;
 
-/// Block length; count and place of the strings, count and place of the
-/// groups; both granularities and both offsets.
-const RECORD: usize = 9;
-const GRANULARITY: usize = 5;
-const DATE_GRANULARITY: usize = 6;
 /// Start and length.
 const RANGE: [Item; 2] = [Item::Number; 2];
 
@@ -74,11 +70,10 @@ fn put_record(numbers: &[u64], out: &mut Words) {
 pub fn by_record(read: ByRecord, bytes: &[u8], places: Places, index: u64) -> String {
     let mut buffer = Lent::bytes(bytes);
     let mut ask = |record: &[u8]| with_record(read, &mut buffer, record, index as usize);
-    let usual = numbers_of(places, 100, 1000);
+    let usual = record::at(places);
     let found = ask(&bytes_of(&usual));
-    let ends = numbers_of(places, i64::from(i32::MIN), i64::from(i32::MAX));
-    let longer = ask(&[bytes_of(&ends), vec![0x5a; 3]].concat());
-    let refused = no_records(&usual)
+    let longer = ask(&record::longer(&usual));
+    let refused = record::none(&usual)
         .iter()
         .all(|record| is_refused(&ask(record)));
     let mut text = found.text(&RANGE, 0);
@@ -106,35 +101,4 @@ fn with_record(read: ByRecord, buffer: &mut Lent, record: &[u8], index: usize) -
     });
     told.faults.join(faults);
     told
-}
-
-fn numbers_of(places: Places, granularity: i64, date_granularity: i64) -> [u64; RECORD] {
-    [
-        places.block_len,
-        places.string_count,
-        places.string_table,
-        places.group_count,
-        places.group_table,
-        granularity as u64,
-        date_granularity as u64,
-        0,
-        0,
-    ]
-}
-
-/// One byte short of a record, and granularities on both sides of int32.
-fn no_records(numbers: &[u64; RECORD]) -> [Vec<u8>; 4] {
-    let with = |at: usize, value: i64| {
-        let mut numbers = *numbers;
-        numbers[at] = value as u64;
-        bytes_of(&numbers)
-    };
-    let mut short = bytes_of(numbers);
-    short.pop();
-    [
-        short,
-        with(GRANULARITY, i64::from(i32::MAX) + 1),
-        with(GRANULARITY, i64::from(i32::MIN) - 1),
-        with(DATE_GRANULARITY, i64::from(u32::MAX)),
-    ]
 }

@@ -38,6 +38,14 @@ impl Lent {
         &mut self.now[GUARD..end]
     }
 
+    /// Puts other bytes into the slice, from a place on, before it is lent
+    /// again.
+    pub fn set(&mut self, at: usize, bytes: &[u8]) {
+        let range = GUARD + at..GUARD + at + bytes.len();
+        self.before[range.clone()].copy_from_slice(bytes);
+        self.now[range].copy_from_slice(bytes);
+    }
+
     pub fn is_unchanged(&self) -> bool {
         self.now == self.before
     }

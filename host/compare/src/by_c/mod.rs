@@ -5,10 +5,13 @@
 //! answer says so at its end, and then it equals no answer of the reader.
 
 mod block;
+mod check;
 mod faults;
 mod lent;
 mod messages;
+mod record;
 mod shape;
+mod tables;
 mod told;
 mod views;
 
@@ -17,8 +20,8 @@ use crate::question::{Ask, Places};
 /// Whether the proved library is linked.
 pub const LINKED: bool = true;
 
-/// The answer in words; none where C has no such question: the leaf, the
-/// check and the walks.
+/// The answer in words; none where C has no such question: the leaf and the
+/// walks.
 pub fn answer(ask: Ask, bytes: &[u8]) -> Option<String> {
     let text = match ask {
         Ask::Scan { len, room } => block::scan(bytes, len, room),
@@ -37,8 +40,9 @@ pub fn answer(ask: Ask, bytes: &[u8]) -> Option<String> {
         Ask::Info => views::answer(&views::INFO, bytes),
         Ask::DensePass => views::answer(&views::DENSE, bytes),
         Ask::Messages { field } => messages::answer(bytes, field),
+        Ask::Check => check::answer(bytes),
         Ask::Varint { .. } | Ask::Field { .. } | Ask::Column => return None,
-        Ask::Check | Ask::Plain | Ask::Full => return None,
+        Ask::Plain | Ask::Full => return None,
     };
     Some(text)
 }
