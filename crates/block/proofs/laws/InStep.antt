@@ -21,8 +21,11 @@ use Rattle.protobuf.specs.Stream.{Stream, end, more, Item, last, item, follow}
 use Rattle.protobuf.specs.Column.{ColumnEnd, ended, cut, Column, valueAt, columnFrom, column, stepAt}
 use Rattle.protobuf.proofs.laws.Read.{says}
 use Rattle.protobuf.proofs.laws.Column.{values-forward, column-from}
+use Rattle.protobuf.proofs.laws.Part.{drop-take, column-shift}
+use Rattle.views.specs.declared.part.Part.{Part}
 use Rattle.views.specs.Outcome.{Outcome, kept, refused, onward, each}
 use Rattle.views.proofs.laws.Outcome.{each-refused, each-kept}
+use Rattle.wire.specs.Lookup.{bytesOf}
 use Rattle.block.specs.Tags.{Pair, NodePairs, restOf, pairBefore, takePairs, densePairs}
 use Rattle.block.specs.InStep.{ahead, NextTag, pair, done, stopped, valueOf, nextTag}
 use Rattle.block.specs.Check.{passed, checkPairs}
@@ -42,6 +45,24 @@ module _ (s : List ℕ) where
 
   pub ahead-whole : ahead s (record { at = 0; end = length s }) ≡ column s
   ahead-whole = ahead-inside 0 (length s) (omega arith) (le-refl _) ∙ ap (λ (t : List ℕ). columnFrom t 0) (take-length s)
+
+  -- from the start of a part to its end are its own bytes
+  pub ahead-part : (p : Part) → p .present ≡ true → p .start + p .len ≤ length s → ahead s (record { at = p .start; end = p .start + p .len }) ≡ column (bytesOf s p)
+  unfolding bytesOf
+  ahead-part p here h =
+      let whole = take (p .start + p .len) s in
+      let size : length whole ≡ p .start + p .len = length-take-le (p .start + p .len) s h in
+      let first : p .start + 0 ≡ p .start = omega arith in
+      ahead-inside (p .start) (p .start + p .len) (omega arith) h
+      ∙ ap (columnFrom whole) (sym first)
+      ∙ column-shift whole (p .start) (omega arith) 0
+      ∙ ap column (drop-take (p .start) (p .len) s)
+      ∙ simp (here, le-leb (p .start + p .len) (length s) h)
+
+  -- a part that is not present has no bytes
+  pub ahead-absent : (p : Part) → p .present ≡ false → ahead s (record { at = 0; end = 0 }) ≡ column (bytesOf s p)
+  unfolding bytesOf
+  ahead-absent p gone = ahead-inside 0 0 (le-refl 0) (omega arith) ∙ simp gone
 
   module _ (p e : ℕ) (h : p ≤ e) (k : e ≤ length s) where
     said-follows : (i : Item ℕ ColumnEnd) → valueAt (take e s) p ≡ i → stepSaid s (stepBy e i) ≡ follow i (columnFrom (take e s))
