@@ -8,7 +8,7 @@ use lib.IntN.{ℤ}
 use Rattle.protobuf.specs.Signed.{twos}
 use Rattle.protobuf.specs.Column.{int32s, sint32s, sint64s, bools, sums}
 use Rattle.views.specs.declared.info.WireInfo.{WireInfo}
-use Rattle.views.specs.View.{Schema, Slots}
+use Rattle.views.specs.View.{Schema}
 use Rattle.views.specs.Schema.{primitiveBlock, node, way, relation, denseNodes, denseInfo, info}
 use Rattle.views.specs.Info.{infoFields, infoOf}
 use Rattle.wire.specs.Block.{blockFields}

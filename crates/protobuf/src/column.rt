@@ -45,6 +45,14 @@ pub fn next_value(s: &[u8], column: Column) -> Step
     if at == end {
         return Step::Ended;
     }
+    // Most values of a map's columns have one byte, and a call costs more than reading it.
+    let byte = s[at];
+    if byte < 128 {
+        return Step::Value {
+            value: byte as u64,
+            next: Column { at: at + 1, end },
+        };
+    }
     let r = read_varint(&s[..end], at);
     let Varint::Value { value, next } = r else {
         return refused(refusal_of(r));

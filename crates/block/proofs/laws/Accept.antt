@@ -19,16 +19,16 @@ use Rattle.protobuf.proofs.laws.Little.{bytes-length, little-bytes}
 use Rattle.protobuf.proofs.laws.Stream.{Every, none-left, this-and}
 use Rattle.protobuf.proofs.laws.Message.{all-within}
 use Rattle.views.specs.declared.part.Part.{Part}
-use Rattle.views.specs.Outcome.{Outcome, kept, refused, onward}
+use Rattle.views.specs.Outcome.{Outcome, kept, refused, onward, each}
 use Rattle.views.specs.View.{partBy}
 use Rattle.views.specs.Group.{isPart}
-use Rattle.views.proofs.laws.Outcome.{went}
+use Rattle.views.proofs.laws.Outcome.{each-kept, went}
 use Rattle.wire.specs.declared.record.WireBlock.{WireBlock}
 use Rattle.wire.specs.declared.lookup.GroupRange.{GroupRange}
 use Rattle.wire.specs.declared.lookup.GroupRange.the-variants as range
 use Rattle.wire.specs.Lookup.{entryAt, isInside, isRecordInside, groupAt, bytesOf}
 use Rattle.wire.specs.Tables.{number32, entry, entries, written}
-use Rattle.wire.specs.Scan.{Scanned, tables, recordBy}
+use Rattle.wire.specs.Scan.{Scanned, meta, tables, recordBy, scanned, afterScan}
 use Rattle.wire.proofs.laws.Tables.{written-length, written-before}
 use Rattle.wire.proofs.laws.Scan.{part-of-front, Kept, scan-kept, stringEntries, strings-length, groups-length, total}
 use Rattle.block.specs.Columns.{bytesIn, partsOf, messagesOf}
@@ -322,3 +322,9 @@ module _ {s : List ℕ} {r : WireBlock} {b : List ℕ} {n : ℕ} (w : Scanned-as
 -- both clauses of the check's contract, by the first
 pub both-clauses : (s : List ℕ) (r : WireBlock) {x : Outcome Unit} → x ≡ checkedIn s r → (x ≡ checkedIn s r) × ((b : List ℕ) (n : ℕ) → Scanned-as s r b n → x ≡ checked (take n b))
 both-clauses s r e = (e, λ b n w. e ∙ scanned-checked w)
+
+-- what a scan leaves, by its contract, is what the second clause asks for
+pub scan-leaves : (b : List ℕ) (n : ℕ) {s : List ℕ} {r : WireBlock} → kept r ≡ each meta (scanned b n) → s ≡ afterScan b n (scanned b n) → Scanned-as s r b n
+scan-leaves b n e after =
+    let found = each-kept meta (scanned b n) (sym e) in
+    record { scan = found .0; so = found .1; buffer = after ∙ ap (afterScan b n) (found .1); meta = sym (found .2) }

@@ -5,8 +5,8 @@ use mathlib.Core.Path.{_≡_, refl, sym, ap, _∙_}
 use mathlib.Core.List.{List}
 use mathlib.Core.Bool.{Bool, true, false}
 use native.Mathlib.Omega.{arith}
-use lib.ListN.{length, take}
-use lib.Seq.{length-take-le}
+use lib.ListN.{length, getD, take}
+use lib.Seq.{getD-take, length-take-le}
 use lib.Dec.{leb, eqb}
 use borrow.Author.Tests.{le-leb, lt-leb, eq-eqb, ne-eqb}
 use Rattle.protobuf.specs.declared.refusal.Refusal.{Refusal}
@@ -16,7 +16,7 @@ use Rattle.protobuf.specs.Varint.{varint}
 use Rattle.protobuf.specs.Stream.{Stream, end, more, Item, last, item, follow, unrolled}
 use Rattle.protobuf.specs.Column.{ColumnEnd, ended, cut, Column, orCut, valueAt, columnFrom, stepAt}
 use Rattle.protobuf.proofs.laws.Read.{reached}
-use Rattle.protobuf.proofs.laws.Varint.{varint-reach}
+use Rattle.protobuf.proofs.laws.Varint.{one-byte, varint-reach}
 use Rattle.protobuf.proofs.laws.Stream.{Forward, unroll}
 
 -- ---- the value at a place
@@ -51,6 +51,13 @@ module _ (s : List ℕ) (p e : ℕ) where
 
     pub step-by : (p ≡ e → ⊥) → {r : Read ℕ} → varint (take e s) p ≡ r → stepAt s p e ≡ orCut r
     step-by ne g = step-inside ∙ value-by (take e s) p (λ eq. ne (eq ∙ length-take-le e s k)) g
+
+    pub step-one : (p ≡ e → ⊥) → getD s p 0 < 128 → stepAt s p e ≡ item (getD s p 0) (p + 1)
+    step-one ne b =
+        let before : p < e = omega (arith, ne) in
+        let same : getD (take e s) p 0 ≡ getD s p 0 = getD-take e s p 0 before in
+        let inside : p < length (take e s) = omega (arith, length-take-le e s k) in
+        step-by ne (one-byte (take e s) p inside (omega (arith, same))) ∙ ap (λ (v : ℕ). item v (p + 1)) same
 
 -- ---- the stream
 

@@ -15,7 +15,7 @@ use Rattle.protobuf.specs.declared.refusal.Refusal.the-variants.{VarintC
 use Rattle.protobuf.specs.Read.{Read, taken, refused, andThen, choose}
 use Rattle.protobuf.specs.Varint.{digits, varint}
 use Rattle.protobuf.proofs.laws.Place.{fits-above, below-next, digit-more}
-use Rattle.protobuf.proofs.laws.Read.{says, andThen-cong, andThen-assoc, Reach, to, nowhere, reach-choose, reach-andThen, reach-down, reached}
+use Rattle.protobuf.proofs.laws.Read.{says, goes-on, andThen-cong, andThen-assoc, Reach, to, nowhere, reach-choose, reach-andThen, reach-down, reached}
 
 -- ---- the three ways on from a byte
 
@@ -106,6 +106,13 @@ module _ {s : List ℕ} {at value k i : ℕ} (r : Reading s at value k i) where
       }
 
 -- ---- a varint ends behind its place and within the bytes
+
+-- a byte without the top bit is a varint of its own
+pub one-byte : (s : List ℕ) (p : ℕ) → p < length s → getD s p 0 < 128 → varint s p ≡ taken (getD s p 0) (p + 1)
+unfolding varint
+one-byte s p h b =
+    simp (le-leb p (length s) (omega arith))
+    (goes-on _ (digits-last 9 s p h b) ∙ ap (λ (v : ℕ). taken v (p + 1)) (mod-eq-of-lt (omega arith)))
 
 pub digits-reach : (n : ℕ) (s : List ℕ) (p : ℕ) → Reach s (suc p) (digits n s p)
 unfolding digits
