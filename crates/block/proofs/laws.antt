@@ -8,6 +8,7 @@ pub mod Accepted
 pub mod Count
 pub mod InStep
 pub mod Zip
+pub mod Even
 pub mod Onward
 pub mod Whole
 pub mod Dense
