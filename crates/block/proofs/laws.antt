@@ -9,6 +9,7 @@ pub mod Count
 pub mod InStep
 pub mod Zip
 pub mod Even
+pub mod Walk
 pub mod Onward
 pub mod Whole
 pub mod Dense

@@ -1,4 +1,4 @@
--- What a scanned block must meet to be accepted, and what an accepted one says: its listing and its content (document 01, sections 3 and
+-- What a scanned block must meet to be accepted, and what an accepted one says: its listing, its content and its walk (document 01, sections 3 and
 -- 4), from its bytes alone.
 pub mod Columns
 pub mod Tags
@@ -10,5 +10,6 @@ pub mod Strings
 pub mod Stored
 pub mod Listing
 pub mod Metadata
+pub mod Walk
 pub mod Content
 pub mod Worked

@@ -23,7 +23,7 @@ use Rattle.protobuf.specs.Message.{message, fieldAt, messageFrom}
 use Rattle.views.proofs.laws.Outcome.{went, chosen, kept-same}
 use Rattle.block.specs.Columns.{bytesIn, messagesOf, columnIn, countOf}
 use Rattle.block.specs.Tags.{Pair, NodePairs, takePairs, densePairs}
-use Rattle.block.specs.Check.{passed, all, sameThree, checkCommon, elementBy, checkRows, checkNode, checkWay, checkRelation, checkDense, checkGroup, checked}
+use Rattle.block.specs.Check.{passed, all, sameThree, checkCommon, elementBy, checkRows, checkNode, checkWay, checkRelation, checkDense, checkFound, checkGroup, checked}
 use Rattle.block.specs.Stored.{keptOr, slotsOf, valuesOf, foundBytes, denseBy}
 use Rattle.block.specs.Listing.{listing}
 use Rattle.block.specs.Content.{content}
@@ -124,25 +124,54 @@ even-relation s p =
 
 -- ---- an accepted dense message
 
-even-dense : (s : List ℕ) → checkDense s ≡ passed → EvenDense (denseBy s (slotsOf denseNodes s))
-unfolding checkDense denseBy
-even-dense s p =
+-- what the check has read of one
+pub record DenseRead (s : List ℕ) : Type 0 where
+  pub slots : Slots
+  pub seen : view denseNodes s ≡ kept slots
+  pub nodes : ℕ
+  pub ids : countOf (columnIn s slots 1) ≡ kept nodes
+  pub lats : countOf (columnIn s slots 8) ≡ kept nodes
+  pub lons : countOf (columnIn s slots 9) ≡ kept nodes
+  pub tags : List (List Pair)
+  pub pairs : densePairs nodes (columnIn s slots 10) ≡ kept tags
+  -- as the definitions of what is stored name them
+  pub stored-slots : slots ≡ slotsOf denseNodes s
+  pub stored-tags : keptOr [] (densePairs (length (valuesOf (columnIn s slots 1))) (columnIn s slots 10)) ≡ tags
+
+pub dense-read : (s : List ℕ) → checkDense s ≡ passed → DenseRead s
+unfolding checkDense
+dense-read s p =
     let w = went (view denseNodes s) _ p in
     let slots = w .value in
     let wi = went (view denseInfo (bytesIn s (slots 5 .part))) _ (w .on) in
     let wr = went (checkRows (columnIn s slots 1) (columnIn s slots 8) (columnIn s slots 9) (columnIn s slots 10)) _ (wi .on) in
     let wc = went (sameThree (columnIn s slots 1) (columnIn s slots 8) (columnIn s slots 9)) _ (wr .is) in
-    let n = wc .value in
-    let wp = went (densePairs n (columnIn s slots 10)) _ (wc .on) in
+    let wp = went (densePairs (wc .value) (columnIn s slots 10)) _ (wc .on) in
     let c = three (columnIn s slots 1) (columnIn s slots 8) (columnIn s slots 9) (wc .is) in
-    let ids = count-values _ (columnIn s slots 1) (c .first) in
-    let tags = ap (keptOr []) (ap (λ (k : ℕ). densePairs k (columnIn s slots 10)) (plain-values (columnIn s slots 1) (c .first)) ∙ wp .is) in
-    let same : slots ≡ slotsOf denseNodes s = ap (keptOr empty) (sym (w .is)) in
-    subst (λ (k : Slots). EvenDense (denseBy s k)) same
+    record {
+      slots = slots;
+      seen = w .is;
+      nodes = wc .value;
+      ids = c .first;
+      lats = c .second;
+      lons = c .third;
+      tags = wp .value;
+      pairs = wp .is;
+      stored-slots = ap (keptOr empty) (sym (w .is));
+      stored-tags = ap (keptOr []) (ap (λ (k : ℕ). densePairs k (columnIn s slots 10)) (plain-values (columnIn s slots 1) (c .first)) ∙ wp .is);
+    }
+
+even-dense : (s : List ℕ) → checkDense s ≡ passed → EvenDense (denseBy s (slotsOf denseNodes s))
+unfolding denseBy
+even-dense s p =
+    let d = dense-read s p in
+    let slots = d .slots in
+    let ids = count-values _ (columnIn s slots 1) (d .ids) in
+    subst (λ (k : Slots). EvenDense (denseBy s k)) (d .stored-slots)
     (record {
-      lats = ids ∙ sym (count-values _ (columnIn s slots 8) (c .second));
-      lons = ids ∙ sym (count-values _ (columnIn s slots 9) (c .third));
-      tags = ids ∙ sym (ap length tags ∙ pairs-length n (columnIn s slots 10) (wp .is));
+      lats = ids ∙ sym (count-values _ (columnIn s slots 8) (d .lats));
+      lons = ids ∙ sym (count-values _ (columnIn s slots 9) (d .lons));
+      tags = ids ∙ sym (ap length (d .stored-tags) ∙ pairs-length (d .nodes) (columnIn s slots 10) (d .pairs));
       ids-held = zigzag-values 64 (columnIn s slots 1);
       lats-held = zigzag-values 64 (columnIn s slots 8);
       lons-held = zigzag-values 64 (columnIn s slots 9);
@@ -153,13 +182,13 @@ nothing-dense : checkDense [] ≡ passed
 unfolding tagAt unrolled fieldAt messageFrom valueAt columnFrom onward view viewFrom columnIn countOf densePairs all sameThree checkDense
 nothing-dense = refl
 
-found-even : (group : List ℕ) (found : Part) → all checkDense (choose (found .present) (bytesIn group found ∷ []) []) ≡ passed → EvenDense (denseBy (foundBytes group found) (slotsOf denseNodes (foundBytes group found)))
+pub found-passed : (group : List ℕ) (found : Part) → checkFound group found ≡ passed → checkDense (foundBytes group found) ≡ passed
 unfolding all
-found-even group found p = by (found .present) p
+found-passed group found p = by (found .present) p
   where
-    by : (t : Bool) → all checkDense (choose t (bytesIn group found ∷ []) []) ≡ passed → EvenDense (denseBy (choose t (bytesIn group found) []) (slotsOf denseNodes (choose t (bytesIn group found) [])))
-    by true q = even-dense (bytesIn group found) (went (checkDense (bytesIn group found)) (λ u. passed) q .is)
-    by false q = even-dense [] nothing-dense
+    by : (t : Bool) → all checkDense (choose t (bytesIn group found ∷ []) []) ≡ passed → checkDense (choose t (bytesIn group found) []) ≡ passed
+    by true q = went (checkDense (bytesIn group found)) (λ u. passed) q .is
+    by false q = nothing-dense
 
 -- ---- an accepted group, and block
 
@@ -168,12 +197,12 @@ unfolding checkGroup
 even-group s p =
     let w = went (denseFrom noPart (message s)) _ p in
     let found = w .value in
-    let wd = went (all checkDense (choose (found .present) (bytesIn s found ∷ []) [])) _ (w .on) in
+    let wd = went (checkFound s found) _ (w .on) in
     let wn = went (all checkNode (messagesOf 1 s)) _ (wd .on) in
     let ww = went (all checkWay (messagesOf 3 s)) _ (wn .on) in
     let same : found ≡ keptOr noPart (denseFrom noPart (message s)) = ap (keptOr noPart) (sym (w .is)) in
     record {
-      dense = subst (λ (f : Part). EvenDense (denseBy (foundBytes s f) (slotsOf denseNodes (foundBytes s f)))) same (found-even s found (wd .is));
+      dense = subst (λ (f : Part). EvenDense (denseBy (foundBytes s f) (slotsOf denseNodes (foundBytes s f)))) same (even-dense (foundBytes s found) (found-passed s found (wd .is)));
       relations = relations-even (messagesOf 4 s) (all-passed checkRelation (messagesOf 4 s) (ww .on));
     }
   where

@@ -27,11 +27,11 @@ sums-count w sum (end (cut r)) = refl
 sums-count w sum (more d rest) = ap (each λ (m : ℕ). 1 + m) (sums-count w _ rest)
 
 -- both columns are read to their end, and have as many values
-data Even {A B : Type 0} : Column A → Column B → Type 0 where
+pub data Even {A B : Type 0} : Column A → Column B → Type 0 where
   both-end : Even (end ended) (end ended)
   both-more : {x : A} {xs : Column A} {y : B} {ys : Column B} → Even xs ys → Even (more x xs) (more y ys)
 
-even : {A B : Type 0} (a : Column A) (b : Column B) {n : ℕ} → countOf a ≡ kept n → countOf b ≡ kept n → Even a b
+pub even : {A B : Type 0} (a : Column A) (b : Column B) {n : ℕ} → countOf a ≡ kept n → countOf b ≡ kept n → Even a b
 unfolding countOf
 even (end (cut r)) b p q = absurd (let z : _≡_ {A = ℕ} 0 1 = cc in omega arith)
 even (end ended) (end ended) p q = both-end
