@@ -20,7 +20,7 @@ use Rattle.views.specs.View.{noPart, Slots, empty, viewFrom, view}
 use Rattle.views.specs.Schema.{relation, denseNodes, denseInfo}
 use Rattle.views.specs.Group.{denseFrom}
 use Rattle.protobuf.specs.Message.{message, fieldAt, messageFrom}
-use Rattle.views.proofs.laws.Outcome.{went, chosen, kept-same}
+use Rattle.views.proofs.laws.Outcome.{each-kept, went, chosen, kept-same}
 use Rattle.block.specs.Columns.{bytesIn, messagesOf, columnIn, countOf}
 use Rattle.block.specs.Tags.{Pair, NodePairs, takePairs, densePairs}
 use Rattle.block.specs.Check.{passed, all, sameThree, checkCommon, elementBy, checkRows, checkNode, checkWay, checkRelation, checkDense, checkFound, checkGroup, checked}
@@ -33,16 +33,6 @@ use Rattle.block.proofs.laws.Said.{EvenRelation, EvenDense}
 use Rattle.block.proofs.laws.Equal.{EvenGroup, even-equal}
 
 -- ---- outcomes that were kept
-
-record Made {A B : Type 0} (x : Outcome A) (f : A → B) (b : B) : Type 0 where
-  value : A
-  is : x ≡ kept value
-  so : f value ≡ b
-
-made : {A B : Type 0} (x : Outcome A) (f : A → B) {b : B} → each f x ≡ kept b → Made x f b
-unfolding each
-made (kept a) f p = record { value = a; is = refl; so = kept-same p }
-made (refused r) f p = absurd (let z : _≡_ {A = ℕ} 0 1 = cc in omega arith)
 
 pub all-passed : {A : Type 0} (check : A → Outcome Unit) (xs : List A) → all check xs ≡ passed → Each (λ (a : A). check a ≡ passed) xs
 unfolding all
@@ -58,7 +48,7 @@ unfolding countOf valuesOf
 plain-values (end ended) {n} p = ap (keptOr n) p
 plain-values (end (cut r)) p = absurd (let z : _≡_ {A = ℕ} 0 1 = cc in omega arith)
 plain-values (more v rest) p =
-    let m = made (countOf rest) (λ (k : ℕ). 1 + k) p in omega (arith, plain-values rest (m .is), m .so)
+    let m = each-kept (λ (k : ℕ). 1 + k) (countOf rest) p in omega (arith, plain-values rest (m .1), m .2)
 
 -- what its field's type makes of a column's values does not change how many they are
 mapped-length : {A : Type 0} (f : ℕ → A) (c : Column ℕ) → length (valuesOf (mapped f c)) ≡ length (valuesOf c)
@@ -103,8 +93,8 @@ unfolding densePairs
 pairs-length zero c {found} p = ap length (sym (ap (keptOr found) p))
 pairs-length (suc n) c p =
     let w = went (takePairs c) (λ (f : NodePairs). each (λ others. f .pairs ∷ others) (densePairs n (f .rest))) p in
-    let m = made (densePairs n (w .value .rest)) (λ others. w .value .pairs ∷ others) (w .on) in
-    sym (ap length (m .so)) ∙ ap suc (pairs-length n (w .value .rest) (m .is))
+    let m = each-kept (λ (others : List (List Pair)). w .value .pairs ∷ others) (densePairs n (w .value .rest)) (w .on) in
+    sym (ap length (m .2)) ∙ ap suc (pairs-length n (w .value .rest) (m .1))
 
 -- ---- an accepted relation
 

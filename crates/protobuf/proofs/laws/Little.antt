@@ -1,9 +1,9 @@
--- Laws of little-endian numbers, over any width: n bytes of a number, read back, are it modulo 256^n; they are n bytes, each below 256; and a number
--- is read by its bytes.
+-- Laws of little-endian numbers, over any width: n bytes of a number, read back, are it modulo 256^n; they are n bytes; and a number is read by
+-- its bytes.
 use Prim.Native.Nat.{ℕ, zero, suc, _+_, _*_, _/_, _%_, _^_, _≤_, _<_}
 use mathlib.Core.Path.{_≡_, refl, sym, ap, _∙_}
-use mathlib.Core.List.{List, [], _∷_}
-use native.Mathlib.Nat.{mod-lt, mod-eq-of-lt, mod-one, pow-succ', mul-comm}
+use mathlib.Core.List.{List}
+use native.Mathlib.Nat.{mod-one, pow-succ', mul-comm}
 use native.Mathlib.Omega.{arith}
 use lib.Arith.{mod-mul}
 use lib.Dec.{lit<}
@@ -28,12 +28,6 @@ little-bytes zero v = sym (mod-one v)
 little-bytes (suc n) v =
     ap (λ (x : ℕ). v % 256 + 256 * x) (little-bytes n (v / 256))
     ∙ sym (ap (λ (m : ℕ). v % m) (pow-succ' 256 n ∙ mul-comm 256 (256 ^ n)) ∙ mod-mul v (pow-pos n) (lit< tt) ∙ omega (arith, mul-comm (v / 256 % 256 ^ n) 256))
-
-pub bytes-small : (n v i : ℕ) → getD (bytes n v) i 0 < 256
-unfolding bytes
-bytes-small zero v i = lit< tt
-bytes-small (suc n) v zero = mod-lt v (lit< tt)
-bytes-small (suc n) v (suc i) = bytes-small n (v / 256) i
 
 -- ---- reading
 
