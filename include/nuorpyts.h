@@ -1,11 +1,13 @@
 /* A reader for OSM PBF map blocks, for C99 and C++11 on x86-64.
  *
  * Numbers go in as themselves, bytes as a pointer and a length. Answers go into bytes that the caller lends: each number takes 8 bytes, the
- * lowest first, and several stand one behind the other. A signed number is its two's complement at 64 bits.
+ * lowest first, and several stand one behind the other. A signed number is its two's complement at 64 bits. Each answer has a SIZE in bytes,
+ * and each of its numbers a place, where its bytes begin: nuorpyts_read_signed(way + NUORPYTS_WAY_ID).
  *
- * Every function returns a code: 0 for success, the number of a refusal, or one of the two codes above the refusals. Where the code is not
- * 0, no byte of any buffer changes. A slice for an answer that is too short gives 14 before anything else is looked at. A longer one is
- * fine: only the bytes that the answer takes are written.
+ * Every function that is linked returns a code: 0 for success, the number of a refusal, or one of the two codes above the refusals. Where
+ * the code is not 0, no byte of any buffer changes, with one exception: a slot for a state, which stands for a value, then holds the ended
+ * state. A slice for an answer that is too short gives 14 before anything else is looked at, but for a slot whose state has ended. A longer
+ * one is fine: only the bytes that the answer takes are written.
  *
  * Every call ends, on all bytes and all arguments, and reads and writes nothing outside what it is lent. For that each pointer has to
  * point to as many bytes as its length says, where the length is 0 to anything but null, and bytes that a call may write must not overlap
@@ -20,30 +22,109 @@
 extern "C" {
 #endif
 
+/* ---- the version of this header and its library */
+
+#define NUORPYTS_VERSION_MAJOR 0u
+#define NUORPYTS_VERSION_MINOR 1u
+#define NUORPYTS_VERSION_PATCH 0u
+#define NUORPYTS_VERSION "0.1.0"
+
+/* ---- a number in an answer or a state */
+
+#define NUORPYTS_NUMBER_SIZE 8u
+
+/* The number whose 8 bytes begin here. */
+static inline uint64_t nuorpyts_read_number(const uint8_t *from) {
+    uint64_t value = 0;
+    unsigned i;
+    for (i = NUORPYTS_NUMBER_SIZE; i > 0; i--) {
+        value = value << 8 | from[i - 1];
+    }
+    return value;
+}
+
+/* The signed number whose 8 bytes begin here. */
+static inline int64_t nuorpyts_read_signed(const uint8_t *from) {
+    uint64_t value = nuorpyts_read_number(from);
+    return value >> 63 == 0 ? (int64_t)value : -(int64_t)~value - 1;
+}
+
+/* Writes a number into the 8 bytes that begin here. A signed one is written as (uint64_t)value. */
+static inline void nuorpyts_write_number(uint8_t *to, uint64_t value) {
+    unsigned i;
+    for (i = 0; i < NUORPYTS_NUMBER_SIZE; i++) {
+        to[i] = (uint8_t)(value >> (8 * i) & 0xFF);
+    }
+}
+
 /* ---- codes */
 
 #define NUORPYTS_OK 0u
 /* refusals */
-#define NUORPYTS_BLOCK_TOO_LONG 1u /* the block is longer than 32 MiB */
-#define NUORPYTS_VARINT_CUT 2u     /* the bytes end inside a varint, or before one that is due */
-#define NUORPYTS_VARINT_LONG 3u    /* ten bytes of a varint with the top bit set */
-#define NUORPYTS_TAG_VALUE 4u      /* a tag above 4,294,967,295, or field number 0 */
-#define NUORPYTS_WIRE_TYPE 5u      /* wire type 6 or 7, or an end tag that closes no group of its number */
-#define NUORPYTS_PAST_END 6u       /* a length or a fixed value passes the end, or the bytes end in a skipped group */
-#define NUORPYTS_GROUP_DEPTH 7u    /* a seventeenth skipped group inside sixteen */
-#define NUORPYTS_GRANULARITY 8u    /* a granularity or date granularity that is no int32 */
-#define NUORPYTS_SECOND_COLUMN 9u  /* a second occurrence of a column that is not empty */
-#define NUORPYTS_SECOND_INFO 10u   /* a second Info or DenseInfo that is not empty */
-#define NUORPYTS_SECOND_DENSE 11u  /* a second dense field in a group */
-#define NUORPYTS_COUNTS 12u        /* columns of different counts */
-#define NUORPYTS_NO_ROOM 13u       /* the buffer is too short for the tables */
-#define NUORPYTS_OUTSIDE 14u       /* a length, range, table or state outside the buffer, a group number not below the count,
-                                      or a slice for an answer or of a record that is too short */
+#define NUORPYTS_BLOCK_TOO_LONG 1u
+#define NUORPYTS_VARINT_CUT 2u
+#define NUORPYTS_VARINT_LONG 3u
+#define NUORPYTS_TAG_VALUE 4u
+#define NUORPYTS_WIRE_TYPE 5u
+#define NUORPYTS_PAST_END 6u
+#define NUORPYTS_GROUP_DEPTH 7u
+#define NUORPYTS_GRANULARITY 8u
+#define NUORPYTS_SECOND_COLUMN 9u
+#define NUORPYTS_SECOND_INFO 10u
+#define NUORPYTS_SECOND_DENSE 11u
+#define NUORPYTS_COUNTS 12u
+#define NUORPYTS_NO_ROOM 13u
+#define NUORPYTS_OUTSIDE 14u
 /* neither success nor refusal */
-#define NUORPYTS_NONE 100u  /* there is no such string */
-#define NUORPYTS_ENDED 101u /* there are no more */
+#define NUORPYTS_NONE 100u
+#define NUORPYTS_ENDED 101u
 
-/* ---- the record of a scanned block: 9 numbers, each in 8 bytes from its place on */
+/* What a code means, in words. */
+static inline const char *nuorpyts_text(uint32_t code) {
+    switch (code) {
+    case NUORPYTS_OK: return "success";
+    case NUORPYTS_BLOCK_TOO_LONG: return "the block is longer than 32 MiB";
+    case NUORPYTS_VARINT_CUT: return "the bytes end inside a varint, or before one that is due";
+    case NUORPYTS_VARINT_LONG: return "ten bytes of a varint with the top bit set";
+    case NUORPYTS_TAG_VALUE: return "a tag above 4294967295, or field number 0";
+    case NUORPYTS_WIRE_TYPE: return "wire type 6 or 7, or an end tag that closes no group of its number";
+    case NUORPYTS_PAST_END: return "a length or a fixed value passes the end, or the bytes end in a skipped group";
+    case NUORPYTS_GROUP_DEPTH: return "a seventeenth skipped group inside sixteen";
+    case NUORPYTS_GRANULARITY: return "a granularity or date granularity that is no int32";
+    case NUORPYTS_SECOND_COLUMN: return "a second occurrence of a column that is not empty";
+    case NUORPYTS_SECOND_INFO: return "a second Info or DenseInfo that is not empty";
+    case NUORPYTS_SECOND_DENSE: return "a second dense field in a group";
+    case NUORPYTS_COUNTS: return "columns of different counts";
+    case NUORPYTS_NO_ROOM: return "the buffer is too short for the tables";
+    case NUORPYTS_OUTSIDE:
+        return "a length, range, table or state outside the buffer, a group number not below the count, or a slice that is too short";
+    case NUORPYTS_NONE: return "there is no such string";
+    case NUORPYTS_ENDED: return "there are no more";
+    default: return "unknown code";
+    }
+}
+
+/* ---- a block and the tables that the scan writes right behind it: an entry for each string, then one for each group */
+
+#define NUORPYTS_BLOCK_LIMIT 33554432u /* the longest block that is read, in bytes */
+
+#define NUORPYTS_ENTRY_SIZE 8u
+#define NUORPYTS_ENTRY_START 0u  /* where the string or group begins in the buffer; 4 bytes, the lowest first */
+#define NUORPYTS_ENTRY_LENGTH 4u /* its length, in the same way */
+#define NUORPYTS_STRINGTABLE_PLACE(block) ((size_t)(block))
+#define NUORPYTS_GROUPTABLE_PLACE(block, strings) ((size_t)(block) + NUORPYTS_ENTRY_SIZE * (size_t)(strings))
+
+/* A number of a table entry, whose 4 bytes begin here. */
+static inline uint32_t nuorpyts_read_entry(const uint8_t *from) {
+    return (uint32_t)from[0] | (uint32_t)from[1] << 8 | (uint32_t)from[2] << 16 | (uint32_t)from[3] << 24;
+}
+
+/* A buffer that has room for a block of so many bytes and its tables, whatever the block holds: five times the block. The shortest string
+ * and the shortest group take 2 bytes of the block and 8 of a table, so a block of nothing but empty groups needs all of it. */
+#define NUORPYTS_BUFFER_TIMES 5u
+#define NUORPYTS_BUFFER_SIZE(block) (NUORPYTS_BUFFER_TIMES * (size_t)(block))
+
+/* ---- the record of a scanned block: 9 numbers */
 
 #define NUORPYTS_RECORD_SIZE 72u
 #define NUORPYTS_RECORD_BLOCK 0u            /* the block's length in bytes */
@@ -56,7 +137,7 @@ extern "C" {
 #define NUORPYTS_RECORD_LATOFFSET 56u       /* signed, in nanodegrees */
 #define NUORPYTS_RECORD_LONOFFSET 64u       /* signed, in nanodegrees */
 
-/* ---- a range of the buffer: start and length */
+/* ---- a range of the buffer: 2 numbers */
 
 #define NUORPYTS_RANGE_SIZE 16u
 #define NUORPYTS_RANGE_START 0u
@@ -72,16 +153,20 @@ extern "C" {
 #define NUORPYTS_KIND_RELATIONS 4u
 #define NUORPYTS_KIND_MIXED 5u
 
+/* ---- blocks */
+
 /* Scans the block in the first `block` bytes of the buffer.
  * Gives: the record, in 72 bytes of `out`.
  * Refuses: 14 where `out` is shorter than 72 bytes or `block` passes the buffer, 1 where the block is longer than 32 MiB, then what is
- * wrong with its fields or its string table, and 13 where the tables have no room behind the block.
- * Writes: the record, and right behind the block the tables, 8 bytes for each string and then for each group. No other byte changes. */
+ * wrong with its fields or its string table, and 13 where the tables have no room behind the block; never 13 in a buffer of
+ * NUORPYTS_BUFFER_SIZE(block) bytes.
+ * Writes: the record, and right behind the block the tables. No other byte changes. */
 uint32_t nuorpyts_scan(uint8_t *buffer, size_t buffer_len, size_t block, uint8_t *out, size_t out_len);
 
 /* Finds a string by its number, from 0 on, in a scanned buffer.
  * Takes: the record's bytes as nuorpyts_scan gave them.
- * Gives: where the string stands in the buffer, start and length, in 16 bytes of `out`.
+ * Gives: where the string stands in the buffer, a range, in 16 bytes of `out`. On what nuorpyts_scan left, string i is the i-th of the block's
+ * last string table, by the block's bytes alone.
  * 100: the number is not below the record's string count, or its table entry passes the buffer.
  * Refuses: 14 where `out` is shorter than 16 bytes, `record` is shorter than 72 or has a granularity that is no int32, or the range
  * passes the buffer.
@@ -90,7 +175,8 @@ uint32_t nuorpyts_get(const uint8_t *buffer, size_t buffer_len, const uint8_t *r
 
 /* Finds a group by its number, from 0 on, in a scanned buffer.
  * Takes: the record's bytes as nuorpyts_scan gave them.
- * Gives: where the group stands in the buffer, start and length, in 16 bytes of `out`.
+ * Gives: where the group stands in the buffer, a range, in 16 bytes of `out`. On what nuorpyts_scan left, group i is the block's i-th, by the
+ * block's bytes alone.
  * Refuses: 14 where `out` is shorter than 16 bytes, `record` is shorter than 72 or has a granularity that is no int32, the block or a
  * table of the record passes the buffer, the number is not below the record's group count, or the range passes the buffer.
  * Writes: the 16 bytes. */
@@ -115,44 +201,93 @@ uint32_t nuorpyts_classify(const uint8_t *buffer, size_t buffer_len, size_t star
 
 /* ---- the views of messages
  *
- * Each reads one message, in the `len` bytes from `start` on of the buffer, and puts the numbers of what it read into `out`, in the order
- * given at each. A flag is 0 or 1. A part is three numbers: whether it is present, its start, which counts from the buffer's start, and
- * its length; all three are 0 where it is not present.
+ * Each reads one message, in the `len` bytes from `start` on of the buffer, and puts the numbers of what it read into `out`.
  * Refuses: 14 where `out` is too short or the range passes the buffer, then the first met in reading order: 2 to 7 where a field cannot
  * be read, 9 at a second column that is not empty, 10 at a second info that is not empty.
  * Writes: the numbers. */
 
+/* A part of a message is three numbers, from the part's place on: whether it is present, 0 or 1; its start, which counts from the buffer's
+ * start; and its length. All three are 0 where it is not present: nuorpyts_read_number(way + NUORPYTS_WAY_REFS + NUORPYTS_PART_START). */
 #define NUORPYTS_PART_SIZE 24u
 #define NUORPYTS_PART_PRESENT 0u
 #define NUORPYTS_PART_START 8u
 #define NUORPYTS_PART_LENGTH 16u
 
-/* Node. Gives 12 numbers: id, lat, lon (signed), parts keys, vals, info. */
+/* Node: three signed numbers and three parts. */
 #define NUORPYTS_NODE_SIZE 96u
+#define NUORPYTS_NODE_ID 0u
+#define NUORPYTS_NODE_LAT 8u
+#define NUORPYTS_NODE_LON 16u
+#define NUORPYTS_NODE_KEYS 24u
+#define NUORPYTS_NODE_VALS 48u
+#define NUORPYTS_NODE_INFO 72u
 uint32_t nuorpyts_node(const uint8_t *buffer, size_t buffer_len, size_t start, size_t len, uint8_t *out, size_t out_len);
 
-/* Way. Gives 22 numbers: id (signed), parts keys, vals, info, refs, lat, lon, pins. Of several pins the last one stands. */
+/* Way: a signed number and seven parts. Of several pins the last one stands. */
 #define NUORPYTS_WAY_SIZE 176u
+#define NUORPYTS_WAY_ID 0u
+#define NUORPYTS_WAY_KEYS 8u
+#define NUORPYTS_WAY_VALS 32u
+#define NUORPYTS_WAY_INFO 56u
+#define NUORPYTS_WAY_REFS 80u
+#define NUORPYTS_WAY_LAT 104u
+#define NUORPYTS_WAY_LON 128u
+#define NUORPYTS_WAY_PINS 152u
 uint32_t nuorpyts_way(const uint8_t *buffer, size_t buffer_len, size_t start, size_t len, uint8_t *out, size_t out_len);
 
-/* Relation. Gives 19 numbers: id (signed), parts keys, vals, info, roles, memids, types. */
+/* Relation: a signed number and six parts. */
 #define NUORPYTS_RELATION_SIZE 152u
+#define NUORPYTS_RELATION_ID 0u
+#define NUORPYTS_RELATION_KEYS 8u
+#define NUORPYTS_RELATION_VALS 32u
+#define NUORPYTS_RELATION_INFO 56u
+#define NUORPYTS_RELATION_ROLES 80u
+#define NUORPYTS_RELATION_MEMIDS 104u
+#define NUORPYTS_RELATION_TYPES 128u
 uint32_t nuorpyts_relation(const uint8_t *buffer, size_t buffer_len, size_t start, size_t len, uint8_t *out, size_t out_len);
 
-/* DenseNodes. Gives 15 numbers: parts id, info, lat, lon, keys_vals. */
+/* DenseNodes: five parts. */
 #define NUORPYTS_DENSE_NODES_SIZE 120u
+#define NUORPYTS_DENSE_NODES_ID 0u
+#define NUORPYTS_DENSE_NODES_INFO 24u
+#define NUORPYTS_DENSE_NODES_LAT 48u
+#define NUORPYTS_DENSE_NODES_LON 72u
+#define NUORPYTS_DENSE_NODES_KEYS_VALS 96u
 uint32_t nuorpyts_dense_nodes(const uint8_t *buffer, size_t buffer_len, size_t start, size_t len, uint8_t *out, size_t out_len);
 
-/* DenseInfo. Gives 18 numbers: parts version, timestamp, changeset, uid, user_sid, visible. */
+/* DenseInfo: six parts. */
 #define NUORPYTS_DENSE_INFO_SIZE 144u
+#define NUORPYTS_DENSE_INFO_VERSION 0u
+#define NUORPYTS_DENSE_INFO_TIMESTAMP 24u
+#define NUORPYTS_DENSE_INFO_CHANGESET 48u
+#define NUORPYTS_DENSE_INFO_UID 72u
+#define NUORPYTS_DENSE_INFO_USER_SID 96u
+#define NUORPYTS_DENSE_INFO_VISIBLE 120u
 uint32_t nuorpyts_dense_info(const uint8_t *buffer, size_t buffer_len, size_t start, size_t len, uint8_t *out, size_t out_len);
 
-/* Info. Gives 12 numbers: for each of version, timestamp, changeset, uid, user_sid, visible whether it is present, and its value, which
- * is signed, or 0 or 1 for visible, and 0 where it is not present. A version or changeset of -1 is not present. */
+/* Info: six numbers that may be absent, each as two: whether it is present, 0 or 1, and its value, which is signed, or 0 or 1 for visible,
+ * and 0 where it is not present. A version or changeset of -1 is not present. */
 #define NUORPYTS_INFO_SIZE 96u
+#define NUORPYTS_INFO_VERSION_PRESENT 0u
+#define NUORPYTS_INFO_VERSION_VALUE 8u
+#define NUORPYTS_INFO_TIMESTAMP_PRESENT 16u
+#define NUORPYTS_INFO_TIMESTAMP_VALUE 24u
+#define NUORPYTS_INFO_CHANGESET_PRESENT 32u
+#define NUORPYTS_INFO_CHANGESET_VALUE 40u
+#define NUORPYTS_INFO_UID_PRESENT 48u
+#define NUORPYTS_INFO_UID_VALUE 56u
+#define NUORPYTS_INFO_USER_SID_PRESENT 64u
+#define NUORPYTS_INFO_USER_SID_VALUE 72u
+#define NUORPYTS_INFO_VISIBLE_PRESENT 80u
+#define NUORPYTS_INFO_VISIBLE_VALUE 88u
 uint32_t nuorpyts_info(const uint8_t *buffer, size_t buffer_len, size_t start, size_t len, uint8_t *out, size_t out_len);
 
-/* ---- a group's messages */
+/* ---- a group's messages, by their field */
+
+#define NUORPYTS_FIELD_NODE 1u
+#define NUORPYTS_FIELD_DENSE 2u
+#define NUORPYTS_FIELD_WAY 3u
+#define NUORPYTS_FIELD_RELATION 4u
 
 /* Finds the dense message of the group in a range.
  * Gives: its part, in 24 bytes of `out`; an empty one is present.
@@ -161,19 +296,36 @@ uint32_t nuorpyts_info(const uint8_t *buffer, size_t buffer_len, size_t start, s
  * Writes: the 24 bytes. */
 uint32_t nuorpyts_dense(const uint8_t *buffer, size_t buffer_len, size_t start, size_t len, uint8_t *out, size_t out_len);
 
-/* Finds the next message of one field of a group: 1 node, 2 dense, 3 way, 4 relation.
- * Takes: a state of four numbers, which the caller writes for the first call: the group's start and length in the buffer, the place in the
- * group, 0 at first, and the field.
+/* The state of an iteration over a group's messages of one field: five numbers in a slot that the caller lends. An ended state says so in
+ * its phase, whatever its other numbers are, and stays ended, whatever is written to the buffer. */
+#define NUORPYTS_MESSAGES_SIZE 40u
+#define NUORPYTS_MESSAGES_PHASE 0u
+#define NUORPYTS_MESSAGES_START 8u   /* where the group begins in the buffer */
+#define NUORPYTS_MESSAGES_LENGTH 16u /* its length */
+#define NUORPYTS_MESSAGES_PLACE 24u  /* where the next field begins, counted from the group's start */
+#define NUORPYTS_MESSAGES_FIELD 32u  /* the messages' field */
+/* phases; no state has another */
+#define NUORPYTS_PHASE_ENDED 0u
+#define NUORPYTS_PHASE_AT 1u
+
+/* Writes the state before the first message of a field, in 40 bytes; the group's range is as nuorpyts_group gave it. */
+static inline void nuorpyts_messages_start(uint8_t *state, uint64_t start, uint64_t len, uint32_t field) {
+    nuorpyts_write_number(state + NUORPYTS_MESSAGES_PHASE, NUORPYTS_PHASE_AT);
+    nuorpyts_write_number(state + NUORPYTS_MESSAGES_START, start);
+    nuorpyts_write_number(state + NUORPYTS_MESSAGES_LENGTH, len);
+    nuorpyts_write_number(state + NUORPYTS_MESSAGES_PLACE, 0);
+    nuorpyts_write_number(state + NUORPYTS_MESSAGES_FIELD, field);
+}
+
+/* Finds the next message of one field of a group.
+ * Takes: a state, which nuorpyts_messages_start writes for the first call.
  * Gives: the message's part, in 24 bytes of `out`, and the state behind it, in `state`.
- * 101: no such message comes before the group's end or before a field that cannot be read. The same state gives 101 again.
- * Refuses: 14 where `state` is shorter than 32 bytes or `out` than 24, the field is above 4294967295, the group passes the buffer or the
- * place passes the group.
- * Writes: the 24 bytes, and the state's 32. */
-#define NUORPYTS_MESSAGES_SIZE 32u
-#define NUORPYTS_MESSAGES_START 0u
-#define NUORPYTS_MESSAGES_LENGTH 8u
-#define NUORPYTS_MESSAGES_PLACE 16u
-#define NUORPYTS_MESSAGES_FIELD 24u
+ * 101: the state has ended, which is told before `out` or the buffer are looked at, and leaves it as it is; or no such message comes before
+ * the group's end or before a field that cannot be read.
+ * Refuses: 14 where `state` is shorter than 40 bytes, which leaves it as it is; then where its phase is neither of the two or its field is
+ * above 4294967295, `out` is shorter than 24 bytes, the group passes the buffer or the place passes the group.
+ * Writes: with 0 the 24 bytes, and the state's 40. With 101 and 14, but for a state that has ended or is too short, the ended state: five
+ * times 0. */
 uint32_t nuorpyts_message(const uint8_t *buffer, size_t buffer_len, uint8_t *state, size_t state_len, uint8_t *out, size_t out_len);
 
 #ifdef __cplusplus

@@ -2,18 +2,19 @@
 -- met. A group: the dense pass over all its fields, then its dense message, its nodes, its ways, its relations.
 use Prim.Native.Nat.{ℕ}
 use mathlib.Core.List.{List, [], _∷_}
-use mathlib.Core.Bool.{false}
 use lib.Dec.{eqb}
 use Rattle.protobuf.specs.declared.refusal.Refusal.the-variants.{Counts}
-use Rattle.protobuf.specs.Read.{choose}
+use Rattle.numbers.specs.Choose.{choose}
 use Rattle.protobuf.specs.Message.{message}
 use Rattle.protobuf.specs.Column.{Column}
-use Rattle.views.specs.declared.part.Part.{Part}
-use Rattle.views.specs.Outcome.{Outcome, kept, refused, onward}
-use Rattle.views.specs.View.{noPart, Schema, Slots, view}
-use Rattle.views.specs.Schema.{node, way, relation, denseNodes, denseInfo, info}
-use Rattle.views.specs.Group.{denseFrom}
-use Rattle.block.specs.Columns.{bytesIn, messagesOf, columnIn, countOf}
+use Rattle.fields.specs.declared.part.Part.{Part}
+use Rattle.fields.specs.Outcome.{Outcome, kept, refused, onward}
+use Rattle.fields.specs.Part.{noPart, bytesIn}
+use Rattle.fields.specs.Parts.{messagesOf}
+use Rattle.fields.specs.View.{Schema, Slots, view}
+use Rattle.fields.specs.Schema.{node, way, relation, denseNodes, denseInfo, info}
+use Rattle.groups.specs.Group.{denseFrom}
+use Rattle.block.specs.Columns.{columnIn, countOf}
 use Rattle.block.specs.Tags.{densePairs}
 
 abbrev pub passed : Outcome Unit
@@ -24,14 +25,17 @@ unfoldable pub all : {A : Type 0} → (A → Outcome Unit) → List A → Outcom
 all check [] = passed
 all check (a ∷ rest) = onward (check a) λ u. all check rest
 
+-- two counts that must be equal; a refusal of either comes before 12
+unfoldable pub agreed : Outcome ℕ → Outcome ℕ → Outcome ℕ
+agreed a b = onward a λ m. onward b λ n. choose (eqb m n) (kept m) (refused Counts)
+
 -- two columns, read whole one after the other, with equal counts
-unfoldable pub sameCounts : Column ℕ → Column ℕ → Outcome ℕ
-sameCounts a b = onward (countOf a) λ m. onward (countOf b) λ n. choose (eqb m n) (kept m) (refused Counts)
+abbrev pub sameCounts : Column ℕ → Column ℕ → Outcome ℕ
+sameCounts a b = agreed (countOf a) (countOf b)
 
 -- three of them
-unfoldable pub sameThree : Column ℕ → Column ℕ → Column ℕ → Outcome ℕ
-sameThree a b c =
-    onward (countOf a) λ l. onward (countOf b) λ m. onward (countOf c) λ n. choose (choose (eqb l m) (eqb m n) false) (kept l) (refused Counts)
+abbrev pub sameThree : Column ℕ → Column ℕ → Column ℕ → Outcome ℕ
+sameThree a b c = agreed (countOf a) (agreed (countOf b) (countOf c))
 
 -- a column read whole, its count compared with no other
 abbrev pub readWhole : Column ℕ → Outcome Unit

@@ -5,11 +5,12 @@ use mathlib.Core.List.{List, [], _∷_, _++_, map}
 use mathlib.Core.Option.{Option, none, some}
 use lib.ListN.{length}
 use lib.IntN.{ℤ, pos, negsuc}
-use Rattle.protobuf.specs.Signed.{twos, zigzag}
+use Rattle.numbers.specs.Signed.{twos, zigzag}
 use Rattle.protobuf.specs.Column.{int32s, sint64s, sums}
-use Rattle.views.specs.Schema.{primitiveBlock, node, way, relation}
+use Rattle.fields.specs.Schema.{primitiveBlock, node, way, relation}
 use Rattle.wire.specs.Block.{blockFields}
-use Rattle.block.specs.Columns.{messagesOf, columnIn}
+use Rattle.fields.specs.Parts.{messagesOf}
+use Rattle.block.specs.Columns.{columnIn}
 use Rattle.block.specs.Tags.{Pair}
 use Rattle.block.specs.Strings.{Text, Tag, shown, roleText}
 use Rattle.block.specs.Stored.{slotsOf, valuesOf, stringsOf, tagsIn, Dense, denseOf}

@@ -5,17 +5,19 @@ use mathlib.Core.List.{List, [], _∷_, _++_, map}
 use mathlib.Core.Option.{Option, none, some}
 use lib.ListN.{length}
 use lib.IntN.{ℤ}
-use Rattle.protobuf.specs.Signed.{twos}
+use Rattle.numbers.specs.Signed.{twos}
 use Rattle.protobuf.specs.Column.{int32s, sint32s, sint64s, bools, sums}
 use Rattle.views.specs.declared.info.WireInfo.{WireInfo}
-use Rattle.views.specs.View.{Schema}
-use Rattle.views.specs.Schema.{primitiveBlock, node, way, relation, denseNodes, denseInfo, info}
+use Rattle.fields.specs.View.{Schema}
+use Rattle.fields.specs.Schema.{primitiveBlock, node, way, relation, denseNodes, denseInfo, info}
 use Rattle.views.specs.Info.{infoFields, infoOf}
 use Rattle.wire.specs.Block.{blockFields}
-use Rattle.block.specs.Columns.{bytesIn, messagesOf, columnIn}
-use Rattle.block.specs.Zip.{Info, Infos, NextInfo, present, missing, stopped, nextInfo}
+use Rattle.block.specs.Columns.{columnIn}
+use Rattle.block.specs.Infos.{Info, Infos, NextInfo, present, missing, stopped, nextInfo}
 use Rattle.block.specs.Stored.{slotsOf, valuesOf, denseBytes}
 use Rattle.block.specs.Listing.{Listing, listing}
+use Rattle.fields.specs.Part.{bytesIn}
+use Rattle.fields.specs.Parts.{messagesOf}
 
 pub data Metadata : Type 0 where
   -- of a node, a way or a relation: its Info as viewed; an absent one is an empty one

@@ -4,16 +4,18 @@ use Prim.Native.Nat.{ℕ}
 use mathlib.Core.List.{List, [], _∷_}
 use lib.ListN.{length}
 use lib.IntN.{ℤ}
-use Rattle.protobuf.specs.Read.{choose}
+use Rattle.numbers.specs.Choose.{choose}
 use Rattle.protobuf.specs.Message.{message}
 use Rattle.protobuf.specs.Stream.{end, more}
 use Rattle.protobuf.specs.Column.{Column, uint32s, sint64s}
-use Rattle.views.specs.declared.part.Part.{Part}
-use Rattle.views.specs.Outcome.{Outcome, kept, refused}
-use Rattle.views.specs.View.{noPart, Schema, Slots, empty, view}
-use Rattle.views.specs.Schema.{primitiveBlock, denseNodes}
-use Rattle.views.specs.Group.{denseFrom}
-use Rattle.block.specs.Columns.{bytesIn, messagesOf, columnIn}
+use Rattle.fields.specs.declared.part.Part.{Part}
+use Rattle.fields.specs.Outcome.{Outcome, kept, refused}
+use Rattle.fields.specs.Part.{noPart, bytesIn}
+use Rattle.fields.specs.Parts.{messagesOf}
+use Rattle.fields.specs.View.{Schema, Slots, empty, view}
+use Rattle.fields.specs.Schema.{primitiveBlock, denseNodes}
+use Rattle.groups.specs.Group.{denseFrom}
+use Rattle.block.specs.Columns.{columnIn}
 use Rattle.block.specs.Tags.{Pair, densePairs}
 use Rattle.block.specs.Strings.{Text, Tag, shown}
 

@@ -7,7 +7,7 @@ use mathlib.Core.Bool.{false}
 use lib.ListN.{length, getD}
 use lib.IntN.{ℤ, pos, negsuc}
 use lib.Dec.{ltb}
-use Rattle.protobuf.specs.Read.{choose}
+use Rattle.numbers.specs.Choose.{choose}
 use Rattle.block.specs.Tags.{Pair}
 
 abbrev pub Text : Type 0

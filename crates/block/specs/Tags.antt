@@ -5,7 +5,7 @@ use mathlib.Core.List.{List, [], _∷_}
 use Rattle.protobuf.specs.declared.refusal.Refusal.the-variants.{VarintCut}
 use Rattle.protobuf.specs.Stream.{end, more}
 use Rattle.protobuf.specs.Column.{ended, cut, Column}
-use Rattle.views.specs.Outcome.{Outcome, kept, refused, onward, each}
+use Rattle.fields.specs.Outcome.{Outcome, kept, refused, onward, each}
 
 pub record Pair : Type 0 where
   pub key : ℕ

@@ -1,38 +1,35 @@
 -- Worked blocks: a pair that says the same in other bytes, with its one listing and its one content as values, so that the definitions are pinned
 -- by what they give and not only by an equality between them. In the block: a tag that is shown and a list of tags cut at a pair without a text, a
 -- dense key of 4,294,967,296, role texts, an empty one and none, a member of each case, an empty group, a dense message without nodes. The twin
--- has other metadata, date granularity, order of strings and fields, unknown fields and longer spellings. A third block pins the metadata.
+-- has other metadata, date granularity, order of strings and fields, unknown fields and longer spellings.
 use Prim.Native.Nat.{ℕ}
 use mathlib.Core.Path.{_≡_, refl}
 use mathlib.Core.List.{List, [], _∷_, _++_}
-use mathlib.Core.Bool.{true, false}
-use mathlib.Core.Option.{Option, none, some}
-use lib.ListN.{length, replicate}
-use Rattle.protobuf.specs.Little.{bytes}
-use lib.IntN.{ℤ, pos, negsuc}
+use mathlib.Core.Option.{none, some}
+use Rattle.numbers.specs.Little.{bytes}
+use lib.IntN.{pos, negsuc}
 use Rattle.protobuf.specs.Read.{andThen}
 use Rattle.protobuf.specs.Varint.{digits, varint}
 use Rattle.protobuf.specs.Tag.{legal, tag, tagAt}
 use Rattle.protobuf.specs.Payload.{rawVarint, fixed, counted, lengthDelimited, valueBy, fieldIn, fieldsOf, groupBy, payload}
 use Rattle.protobuf.specs.Stream.{unrolled, mapped}
 use Rattle.protobuf.specs.Message.{fieldAt, messageFrom}
-use Rattle.protobuf.specs.Signed.{signed, twos, unzigzag, zigzag, residue, wrap}
+use Rattle.numbers.specs.Signed.{signed, twos, unzigzag, zigzag, residue, wrap}
 use Rattle.protobuf.specs.Column.{valueAt, columnFrom, sumsFrom}
-use Rattle.views.specs.declared.info.Number32.{Number32}
-use Rattle.views.specs.declared.info.Number64.{Number64}
-use Rattle.views.specs.Outcome.{Outcome, kept, onward, each}
+use Rattle.fields.specs.Outcome.{kept, onward, each}
 use Rattle.wire.specs.Tables.{entries}
 use Rattle.wire.specs.Scan.{tablesStage, stringsStage, fieldsStage, scanned}
-use Rattle.views.specs.View.{columnPart, infoPart, put, store, viewFrom, view}
-use Rattle.views.specs.Group.{denseFrom}
-use Rattle.block.specs.Columns.{partsOf, messagesOf, columnIn, countOf}
+use Rattle.fields.specs.View.{columnPart, infoPart, put, store, viewFrom, view}
+use Rattle.groups.specs.Group.{denseFrom}
+use Rattle.fields.specs.Parts.{partsOf, messagesOf}
+use Rattle.block.specs.Columns.{columnIn, countOf}
 use Rattle.block.specs.Tags.{takePairs, densePairs}
-use Rattle.block.specs.Check.{passed, all, sameCounts, sameThree, elementBy, checkDense, checkGroup, checked}
+use Rattle.block.specs.Check.{passed, all, agreed, elementBy, checkDense, checkGroup, checked}
 use Rattle.block.specs.Strings.{Text, Tag, textAt, shown, roleText}
 use Rattle.block.specs.Stored.{valuesOf, pairUp, stringsOf, tagsIn, denseBy}
-use Rattle.block.specs.Listing.{denseNode, looseNode, aWay, aRelation, Position, MemberId, ofNode, ofWay, ofRelation, unknown, Member, Listing, membersBy, nodeElement, wayElement, relationElement, denseBySums, denseElements, groupElements, elementsFrom, listing}
-use Rattle.block.specs.Metadata.{Full, viewed, inStep, elementInfo, infosOf, nodeInfos, denseInfos, groupMetadata, metadataOf, fullListing}
-use Rattle.block.specs.Content.{DenseContent, GroupContent, Content, NodeContent, WayContent, MembersContent, RelationContent, denseContent, nodeContent, wayContent, relationContent, groupContent, content}
+use Rattle.block.specs.Listing.{denseNode, looseNode, aWay, aRelation, ofNode, ofWay, ofRelation, unknown, Listing, membersBy, nodeElement, wayElement, relationElement, denseBySums, denseElements, groupElements, elementsFrom, listing}
+use Rattle.block.specs.Content.{DenseContent, Content, denseContent, nodeContent, wayContent, relationContent, groupContent, content}
+use Rattle.block.specs.Spelled.{at, member, groupsScanned}
 
 -- ---- what both say
 
@@ -48,12 +45,6 @@ outer = 0x6F ∷ 0x75 ∷ 0x74 ∷ 0x65 ∷ 0x72 ∷ []
 -- highway=path
 abbrev pub track : Tag
 track = record { key = highway; value = path }
-
-abbrev pub at : ℤ → ℤ → Position
-at lat lon = record { lat = lat; lon = lon }
-
-abbrev pub member : Option Text → MemberId → Member
-member role id = record { role = role; id = id }
 
 abbrev pub worked : Listing
 worked =
@@ -155,67 +146,6 @@ twin =
     ++ (0x88 ∷ 0x01 ∷ 0xE4 ∷ 0x00 ∷ [])
     ++ (0x0A ∷ 0x18 ∷ 0x0A ∷ 0x00 ∷ 0x0A ∷ 0x04 ∷ 0x70 ∷ 0x61 ∷ 0x74 ∷ 0x68 ∷ 0x0A ∷ 0x05 ∷ 0x6F ∷ 0x75 ∷ 0x74 ∷ 0x65 ∷ 0x72 ∷ 0x0A ∷ 0x07 ∷ 0x68 ∷ 0x69 ∷ 0x67 ∷ 0x68 ∷ 0x77 ∷ 0x61 ∷ 0x79 ∷ [])
 
--- a block with metadata: three dense nodes of which two have info (a uid that wraps at 32 bits, a visible mark that is false and one that is
--- missing), a node with an Info, a way without one
-abbrev pub stamped : List ℕ
-stamped =
-    (0x12 ∷ 0x3E ∷ 0x12 ∷ 0x2C ∷ 0x0A ∷ 0x03 ∷ 0x02 ∷ 0x02 ∷ 0x02 ∷ [])
-    ++ (0x2A ∷ 0x1B ∷ 0x0A ∷ 0x02 ∷ 0x01 ∷ 0x02 ∷ 0x12 ∷ 0x02 ∷ 0x14 ∷ 0x02 ∷ 0x1A ∷ 0x02 ∷ 0x06 ∷ 0x01 ∷ 0x22 ∷ 0x06 ∷ 0xFE ∷ 0xFF ∷ 0xFF ∷ 0xFF ∷ 0x0F ∷ 0x02 ∷ 0x2A ∷ 0x02 ∷ 0x04 ∷ 0x02 ∷ 0x32 ∷ 0x01 ∷ 0x00 ∷ [])
-    ++ (0x42 ∷ 0x03 ∷ 0x02 ∷ 0x02 ∷ 0x02 ∷ 0x4A ∷ 0x03 ∷ 0x02 ∷ 0x02 ∷ 0x02 ∷ [])
-    ++ (0x0A ∷ 0x0A ∷ 0x08 ∷ 0x04 ∷ 0x22 ∷ 0x06 ∷ 0x08 ∷ 0x03 ∷ 0x28 ∷ 0x02 ∷ 0x30 ∷ 0x01 ∷ [])
-    ++ (0x1A ∷ 0x02 ∷ 0x08 ∷ 0x07 ∷ [])
-
-abbrev pub unstated : Number32
-unstated = record { present = false; value = pos 0 }
-
-abbrev pub unstated64 : Number64
-unstated64 = record { present = false; value = pos 0 }
-
-abbrev pub stated : Full
-stated =
-    record {
-      plain =
-          record {
-            granularity = pos 100;
-            latoffset = pos 0;
-            lonoffset = pos 0;
-            groups = 1;
-            elements =
-                record { group = 0; kind = denseNode; id = pos 1; position = some (at (pos 1) (pos 1)); tags = []; references = []; members = [] }
-                ∷ record { group = 0; kind = denseNode; id = pos 2; position = some (at (pos 2) (pos 2)); tags = []; references = []; members = [] }
-                ∷ record { group = 0; kind = denseNode; id = pos 3; position = some (at (pos 3) (pos 3)); tags = []; references = []; members = [] }
-                ∷ record { group = 0; kind = looseNode; id = pos 2; position = some (at (pos 0) (pos 0)); tags = []; references = []; members = [] }
-                ∷ record { group = 0; kind = aWay; id = pos 7; position = none; tags = []; references = []; members = [] }
-                ∷ [];
-          };
-      dategranularity = pos 1000;
-      metadata =
-          inStep (some (record { version = pos 1; timestamp = pos 10; changeset = pos 3; uid = pos 2147483647; user = pos 2; visible = false }))
-          ∷ inStep (some (record { version = pos 2; timestamp = pos 11; changeset = pos 2; uid = negsuc 2147483647; user = pos 3; visible = true }))
-          ∷ inStep none
-          ∷ viewed (record {
-            version = record { present = true; value = pos 3 };
-            timestamp = unstated64;
-            changeset = unstated64;
-            uid = unstated;
-            user = record { present = true; value = pos 2 };
-            visible = record { present = true; value = true };
-          })
-          ∷ viewed (record {
-            version = unstated;
-            timestamp = unstated64;
-            changeset = unstated64;
-            uid = unstated;
-            user = unstated;
-            visible = record { present = false; value = false };
-          })
-          ∷ [];
-    }
-
--- the group count of a block's record, with n bytes behind the block
-abbrev pub groupsScanned : List ℕ → ℕ → Outcome ℕ
-groupsScanned block n = each (λ x. x .block .groups) (scanned (block ++ replicate n 0) (length block))
-
 pub record Worked : Type 0 where
   pub first-scanned : groupsScanned first 64 ≡ kept 4
   pub twin-scanned : groupsScanned twin 64 ≡ kept 4
@@ -225,11 +155,9 @@ pub record Worked : Type 0 where
   pub twin-listing : listing twin ≡ worked
   pub first-content : content first ≡ stored
   pub twin-content : content twin ≡ stored
-  pub stamped-checked : checked stamped ≡ passed
-  pub stamped-listing : fullListing stamped ≡ stated
 
 pub worked-pair : Worked
-unfolding bytes entries tablesStage stringsStage fieldsStage scanned andThen digits varint legal tag tagAt rawVarint fixed counted lengthDelimited valueBy fieldIn fieldsOf groupBy payload unrolled mapped fieldAt messageFrom signed twos unzigzag zigzag residue wrap valueAt columnFrom sumsFrom onward each columnPart infoPart put store viewFrom view denseFrom partsOf messagesOf columnIn countOf takePairs densePairs all sameCounts sameThree elementBy checkDense checkGroup checked textAt shown roleText valuesOf pairUp stringsOf tagsIn denseBy membersBy nodeElement wayElement relationElement denseBySums denseElements groupElements elementsFrom listing denseContent nodeContent wayContent relationContent groupContent content elementInfo infosOf nodeInfos denseInfos groupMetadata metadataOf fullListing
+unfolding bytes entries tablesStage stringsStage fieldsStage scanned andThen digits varint legal tag tagAt rawVarint fixed counted lengthDelimited valueBy fieldIn fieldsOf groupBy payload unrolled mapped fieldAt messageFrom signed twos unzigzag zigzag residue wrap valueAt columnFrom sumsFrom onward each columnPart infoPart put store viewFrom view denseFrom partsOf messagesOf columnIn countOf takePairs densePairs all agreed elementBy checkDense checkGroup checked textAt shown roleText valuesOf pairUp stringsOf tagsIn denseBy membersBy nodeElement wayElement relationElement denseBySums denseElements groupElements elementsFrom listing denseContent nodeContent wayContent relationContent groupContent content
 worked-pair =
     record {
       first-scanned = refl;
@@ -240,6 +168,4 @@ worked-pair =
       twin-listing = refl;
       first-content = refl;
       twin-content = refl;
-      stamped-checked = refl;
-      stamped-listing = refl;
     }

@@ -1,7 +1,6 @@
 -- One file of laws for each subject.
-pub mod Words
-pub mod Filled
-pub mod Codes
 pub mod Block
+pub mod Group
+pub mod Scanned
 pub mod Check
-pub mod Messages
+pub mod ScanLeft

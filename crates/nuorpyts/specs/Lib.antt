@@ -1,6 +1,5 @@
--- How numbers, records and answers pass through C.
-pub mod Words
-pub mod Codes
+-- What the entries answer that no function below does: through the record in a slice, and in a range of the buffer.
 pub mod Block
+pub mod Group
 pub mod Check
-pub mod Views
+pub mod Worked

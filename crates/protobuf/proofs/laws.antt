@@ -9,9 +9,4 @@ pub mod Stream
 pub mod Message
 pub mod Column
 pub mod Part
-pub mod Modulo
-pub mod Signed
-pub mod Machine
-pub mod Little
 pub mod Within
-pub mod Test

@@ -8,9 +8,10 @@ use lib.Dec.{eqb, leb}
 use lib.IntN.{ℤ, pos}
 use Rattle.protobuf.specs.declared.refusal.Refusal.{Refusal}
 use Rattle.protobuf.specs.declared.refusal.Refusal.the-variants.{Outside}
-use Rattle.protobuf.specs.Read.{Read, taken, refused, choose}
+use Rattle.protobuf.specs.Read.{Read, taken, refused}
+use Rattle.numbers.specs.Choose.{choose}
 use Rattle.protobuf.specs.Varint.{varint}
-use Rattle.protobuf.specs.Signed.{twos, zigzag, wrappingAdd}
+use Rattle.numbers.specs.Signed.{twos, zigzag, wrappingAdd}
 use Rattle.protobuf.specs.Stream.{Stream, end, more, Item, last, item, unrolled, mapped}
 
 pub data ColumnEnd : Type 0 where

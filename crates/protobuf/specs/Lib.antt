@@ -3,10 +3,9 @@ pub mod Refusal
 pub mod Read
 pub mod Varint
 pub mod Tag
-pub mod Little
 pub mod Payload
 pub mod Stream
 pub mod Message
-pub mod Signed
 pub mod Column
 pub mod Answers
+pub mod Worked

@@ -6,7 +6,8 @@ use mathlib.Core.List.{List}
 use lib.ListN.{length}
 use lib.Dec.{leb, eqb}
 use Rattle.protobuf.specs.declared.refusal.Refusal.the-variants.{WireType as BadWireType, PastEnd, GroupDepth, Outside}
-use Rattle.protobuf.specs.Read.{Read, taken, refused, andThen, choose}
+use Rattle.protobuf.specs.Read.{Read, taken, refused, andThen}
+use Rattle.numbers.specs.Choose.{choose}
 use Rattle.protobuf.specs.Varint.{varint}
 use Rattle.protobuf.specs.Tag.{Tag, tag, WireType, wireType, VARINT, I64, LEN, SGROUP, EGROUP, I32, reserved}
 

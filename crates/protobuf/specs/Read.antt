@@ -1,7 +1,6 @@
 -- What reading at a place gives: a thing with the place behind it, or a refusal. `andThen` goes on from there and hands a refusal up
 -- unchanged, which is document 01's "the varint is taken or its refusal is handed up at once".
 use Prim.Native.Nat.{ℕ}
-use mathlib.Core.Bool.{Bool, true, false}
 use Rattle.protobuf.specs.declared.refusal.Refusal.{Refusal}
 
 pub data Read (A : Type 0) : Type 0 where
@@ -11,7 +10,3 @@ pub data Read (A : Type 0) : Type 0 where
 unfoldable pub andThen : {A B : Type 0} → Read A → (A → ℕ → Read B) → Read B
 andThen (taken a next) f = f a next
 andThen (refused r) f = refused r
-
-abbrev pub choose : {A : Type 0} → Bool → A → A → A
-choose true a b = a
-choose false a b = b

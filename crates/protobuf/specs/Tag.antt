@@ -6,7 +6,8 @@ use lib.ListN.{length}
 use lib.Dec.{ltb, eqb}
 use Rattle.protobuf.specs.declared.refusal.Refusal.{Refusal}
 use Rattle.protobuf.specs.declared.refusal.Refusal.the-variants.{TagValue}
-use Rattle.protobuf.specs.Read.{Read, taken, refused, andThen, choose}
+use Rattle.protobuf.specs.Read.{Read, taken, refused, andThen}
+use Rattle.numbers.specs.Choose.{choose}
 use Rattle.protobuf.specs.Varint.{varint}
 
 pub record Tag : Type 0 where

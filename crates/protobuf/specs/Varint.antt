@@ -6,7 +6,8 @@ use mathlib.Core.List.{List}
 use lib.ListN.{length, getD}
 use lib.Dec.{ltb, leb}
 use Rattle.protobuf.specs.declared.refusal.Refusal.the-variants.{VarintCut, VarintLong, Outside}
-use Rattle.protobuf.specs.Read.{Read, taken, refused, andThen, choose}
+use Rattle.protobuf.specs.Read.{Read, taken, refused, andThen}
+use Rattle.numbers.specs.Choose.{choose}
 
 -- the value of the bytes from p on, where n bytes may still come
 unfoldable pub digits : ℕ → List ℕ → ℕ → Read ℕ

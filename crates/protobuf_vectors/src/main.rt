@@ -2,12 +2,12 @@
 // `protobuf`, and prints what each call answered: one line a case, with its label, its input and the outcome. No line holds an answer that
 // the program chose itself, so a reader that answers otherwise prints otherwise; the file `stdout` has what the documents say.
 mod columns;
-mod numbers;
 mod out;
 mod payloads;
 mod skips;
 mod tags;
 mod varints;
+mod wrapping;
 
 fn main() {
     varints::run();
@@ -15,5 +15,5 @@ fn main() {
     payloads::run();
     skips::run();
     columns::run();
-    numbers::run();
+    wrapping::run();
 }

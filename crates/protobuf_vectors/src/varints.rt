@@ -7,10 +7,10 @@ use crate::out::named;
 use crate::out::named_signed;
 use crate::out::refused;
 use crate::out::wide;
-use protobuf::signed::int32;
-use protobuf::signed::int64;
-use protobuf::signed::zigzag_i32;
-use protobuf::signed::zigzag_i64;
+use numbers::signed::int32;
+use numbers::signed::int64;
+use numbers::signed::zigzag_i32;
+use numbers::signed::zigzag_i64;
 use protobuf::varint::Varint;
 use protobuf::varint::read_varint;
 

@@ -18,16 +18,16 @@ use crate::text::refuse;
 use crate::text::start_of;
 use crate::text::stop_steps;
 use crate::text::whole;
-use block::check::Checked;
-use block::check::check;
+use accept::check::Checked;
+use accept::check::check;
+use fields::part::Part;
+use groups::classify::BlockType;
+use groups::classify::classify_group;
+use groups::group::DenseFound;
+use groups::group::MessageStep;
+use groups::group::WireMessageIter;
+use groups::group::dense;
 use protobuf::refusal::Refusal;
-use views::classify::BlockType;
-use views::classify::classify_group;
-use views::group::DenseFound;
-use views::group::MessageStep;
-use views::group::WireMessageIter;
-use views::group::dense;
-use views::part::Part;
 use wire::lookup::Got;
 use wire::lookup::GroupRange;
 use wire::lookup::get;
@@ -226,8 +226,8 @@ pub(crate) fn ask_messages(
     while steps < ROOM {
         let r = place.step(s);
         match r {
-            MessageStep::Ended => return end_steps(out, end),
-            MessageStep::Refused(n) => return stop_steps(out, end, n),
+            MessageStep::Ended { next: _ } => return end_steps(out, end),
+            MessageStep::Refused { refusal, next: _ } => return stop_steps(out, end, refusal),
             MessageStep::Message { part, next } => {
                 end = put_message(out, end, part, start);
                 place = next;

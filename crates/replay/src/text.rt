@@ -1,12 +1,12 @@
 // Text of an answer: words are put behind each other into an array, each with a space before it. What does not fit is not put, and then
 // the text differs from every line of the list.
+use fields::part::Part;
 use libc::STDOUT_FILENO;
+use numbers::signed::bits_i64;
 use protobuf::refusal::Refusal;
 use protobuf::refusal::number;
-use protobuf::signed::bits_i64;
 use std::num::wrapping_sub_u64;
 use std::num::wrapping_sub_usize;
-use views::part::Part;
 
 // The most bytes of an answer's text.
 pub(crate) const ROOM: usize = 2048;

@@ -1,8 +1,3 @@
--- One file of laws for each file of definitions.
-pub mod Outcome
-pub mod View
-pub mod Within
-pub mod Parse
-pub mod Classify
+-- One file of laws for the slots that a loop fills, and one for the numbers of Info.
+pub mod Slots
 pub mod Info
-pub mod Group

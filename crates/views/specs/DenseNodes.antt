@@ -4,15 +4,11 @@ use Prim.Native.Nat.{ℕ}
 use Rattle.views.specs.declared.dense_nodes.WireDenseNodes.{WireDenseNodes}
 use Rattle.views.specs.declared.dense_nodes.DenseNodesParse.{DenseNodesParse}
 use Rattle.views.specs.declared.dense_nodes.DenseNodesParse.the-variants as parse
-use Rattle.views.specs.declared.dense_nodes.DenseNodesFields.{DenseNodesFields}
-use Rattle.views.specs.declared.dense_nodes.DenseNodesStored.{DenseNodesStored}
-use Rattle.views.specs.declared.dense_nodes.DenseNodesStored.the-variants as stored
-use Rattle.views.specs.Outcome.{Outcome, kept, refused}
-use Rattle.views.specs.View.{Slots}
-use Rattle.views.specs.Handed.{moved}
+use Rattle.fields.specs.Outcome.{Outcome, kept, refused}
+use Rattle.fields.specs.View.{Slots, movedSlots}
 
-abbrev pub denseNodesFields : Slots → DenseNodesFields
-denseNodesFields slots =
+abbrev pub denseNodesOf : Slots → WireDenseNodes
+denseNodesOf slots =
     record {
       id = slots 1 .part;
       info = slots 5 .part;
@@ -21,22 +17,8 @@ denseNodesFields slots =
       keyvals = slots 10 .part;
     }
 
-abbrev pub keptDenseNodes : DenseNodesStored → Outcome DenseNodesFields
-keptDenseNodes (stored.Kept v) = kept v
-keptDenseNodes (stored.Refused r) = refused r
-
-abbrev pub denseNodesOf : ℕ → DenseNodesFields → WireDenseNodes
-denseNodesOf base v =
-    record {
-      id = moved base (v .id);
-      info = moved base (v .info);
-      lat = moved base (v .lat);
-      lon = moved base (v .lon);
-      keyvals = moved base (v .keyvals);
-    }
-
 abbrev pub denseNodesAt : ℕ → Slots → WireDenseNodes
-denseNodesAt base slots = denseNodesOf base (denseNodesFields slots)
+denseNodesAt base slots = denseNodesOf (movedSlots base slots)
 
 abbrev pub parsedDenseNodes : DenseNodesParse → Outcome WireDenseNodes
 parsedDenseNodes (parse.Parsed v) = kept v

@@ -4,9 +4,10 @@ use Prim.Native.Nat.{ℕ}
 use mathlib.Core.Bool.{Bool, true, false, not}
 use lib.Dec.{eqb}
 use lib.IntN.{ℤ, pos, negsuc}
-use Rattle.protobuf.specs.Read.{choose}
-use Rattle.protobuf.specs.Signed.{twos}
+use Rattle.numbers.specs.Choose.{choose}
+use Rattle.numbers.specs.Signed.{twos}
 use Rattle.views.specs.declared.info.Scalar.{Scalar}
+use Rattle.fields.specs.declared.slot.Slot.{Slot}
 use Rattle.views.specs.declared.info.Number32.{Number32}
 use Rattle.views.specs.declared.info.Number64.{Number64}
 use Rattle.views.specs.declared.info.Flag.{Flag}
@@ -14,10 +15,8 @@ use Rattle.views.specs.declared.info.WireInfo.{WireInfo}
 use Rattle.views.specs.declared.info.InfoParse.{InfoParse}
 use Rattle.views.specs.declared.info.InfoParse.the-variants as parse
 use Rattle.views.specs.declared.info.InfoFields.{InfoFields}
-use Rattle.views.specs.declared.info.InfoStored.{InfoStored}
-use Rattle.views.specs.declared.info.InfoStored.the-variants as stored
-use Rattle.views.specs.Outcome.{Outcome, kept, refused}
-use Rattle.views.specs.View.{Slot, Slots}
+use Rattle.fields.specs.Outcome.{Outcome, kept, refused}
+use Rattle.fields.specs.View.{Slots}
 
 -- a number, and whether it was read
 abbrev pub scalarOf : Slot → Scalar
@@ -33,10 +32,6 @@ infoFields slots =
       user = scalarOf (slots 5);
       visible = scalarOf (slots 6);
     }
-
-abbrev pub keptInfo : InfoStored → Outcome InfoFields
-keptInfo (stored.Kept v) = kept v
-keptInfo (stored.Refused r) = refused r
 
 -- ---- by their types
 

@@ -1,14 +1,10 @@
--- What wire.rs reads of messages: their views, by the schemas, a group's kind, its dense message and its messages of one field. Definitions
--- from osmformat.proto and document 01, section 2. Read them in this order.
-pub mod Outcome
-pub mod View
-pub mod Schema
-pub mod Handed
+-- What wire.rs reads of messages: each message's slots by name and by type, as its view hands them out. Definitions from osmformat.proto and
+-- document 01, section 2; what a view makes of each field is in `fields`.
+pub mod Slots
 pub mod Node
 pub mod Way
 pub mod Relation
 pub mod DenseNodes
 pub mod DenseInfo
 pub mod Info
-pub mod Classify
-pub mod Group
+pub mod Worked

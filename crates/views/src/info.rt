@@ -1,22 +1,21 @@
 // Info: the metadata of a node, a way or a relation.
 ghost use mathlib.Core.Path.{_≡_};
-ghost use Prim.Native.Nat.{ℕ};
-ghost use Rattle.protobuf.specs.Answers.{fieldBy};
-ghost use Rattle.views.specs.Outcome.{kept, each};
-ghost use Rattle.views.specs.View.{Slots, store, view, viewIn};
-ghost use Rattle.views.specs.Schema.{info};
-ghost use Rattle.views.specs.Info.{infoFields, keptInfo, int32Of, int64Of, boolOf, unlessMinusOne, infoOf, parsedInfo};
-use crate::schema::info::CHANGESET;
-use crate::schema::info::TIMESTAMP;
-use crate::schema::info::UID;
-use crate::schema::info::USER_SID;
-use crate::schema::info::VERSION;
-use crate::schema::info::VISIBLE;
-use protobuf::message::Field;
-use protobuf::message::next_field;
+ghost use Rattle.fields.specs.Outcome.{each};
+ghost use Rattle.fields.specs.View.{viewIn};
+ghost use Rattle.protobuf.specs.Tag.{split};
+ghost use Rattle.fields.specs.Slot.{ruleBy, ruleFor};
+ghost use Rattle.views.specs.Slots.{slotsOf};
+ghost use Rattle.fields.specs.Schema.{info};
+ghost use Rattle.views.specs.Info.{infoFields, int32Of, int64Of, boolOf, unlessMinusOne, infoOf, parsedInfo};
+use crate::slots::Status;
+use crate::slots::View;
+use crate::slots::read_view;
+use fields::schema::info;
+use fields::slot::Rule;
+use fields::slot::Slot;
+use numbers::signed::int32;
+use numbers::signed::int64;
 use protobuf::refusal::Refusal;
-use protobuf::signed::int32;
-use protobuf::signed::int64;
 
 // A number of 32 bits, if there is one: 0 where there is none.
 pub struct Number32 {
@@ -65,100 +64,6 @@ pub struct InfoFields {
     pub uid: Scalar,
     pub user: Scalar,
     pub visible: Scalar,
-}
-
-pub enum InfoStored {
-    Kept(InfoFields),
-    Refused(Refusal),
-}
-
-// One field, by its number with its wire type; any other pair is passed over.
-fn store_info(v: InfoFields, tag: u32, value: u64) -> InfoFields
-    ensures { λ r. ⌜ ((slots : Slots) (start len : ℕ) → v ≡ infoFields slots → kept r ≡ each infoFields (store info slots (fieldBy tag value start len))) ⌝ }
-{
-    let mut w = v;
-    let read = Scalar {
-        present: true,
-        value,
-    };
-    match tag {
-        VERSION => {
-            w.version = read;
-            w
-        }
-        TIMESTAMP => {
-            w.timestamp = read;
-            w
-        }
-        CHANGESET => {
-            w.changeset = read;
-            w
-        }
-        UID => {
-            w.uid = read;
-            w
-        }
-        USER_SID => {
-            w.user = read;
-            w
-        }
-        VISIBLE => {
-            w.visible = read;
-            w
-        }
-        _ => w,
-    }
-}
-
-// The message's fields, one after the other.
-fn info_fields(s: &[u8]) -> InfoStored
-    ensures { λ r. ⌜ keptInfo r ≡ each infoFields (view info (now (s .entry))) ⌝ }
-{
-    let mut v = InfoFields {
-        version: Scalar {
-            present: false,
-            value: 0,
-        },
-        timestamp: Scalar {
-            present: false,
-            value: 0,
-        },
-        changeset: Scalar {
-            present: false,
-            value: 0,
-        },
-        uid: Scalar {
-            present: false,
-            value: 0,
-        },
-        user: Scalar {
-            present: false,
-            value: 0,
-        },
-        visible: Scalar {
-            present: false,
-            value: 0,
-        },
-    };
-    let mut at = 0;
-    loop {
-        let f = next_field(s, at);
-        match f {
-            Field::Complete => return InfoStored::Kept(v),
-            Field::Cut(n) => return InfoStored::Refused(n),
-            Field::Spoilt { tag: _, refusal } => return InfoStored::Refused(refusal),
-            Field::Read {
-                tag,
-                value,
-                start: _,
-                len: _,
-                next,
-            } => {
-                v = store_info(v, tag, value);
-                at = next;
-            }
-        }
-    }
 }
 
 // The lowest 32 bits, signed.
@@ -240,6 +145,56 @@ fn unless_minus_one64(x: Scalar) -> Scalar
     }
 }
 
+// The slots by name.
+fn info_fields(v: [Slot; 11]) -> InfoFields
+    ensures { λ r. ⌜ r ≡ infoFields (slotsOf v) ⌝ }
+{
+    let version = v[1];
+    let read = version.part;
+    let version = Scalar {
+        present: read.present,
+        value: version.value,
+    };
+    let timestamp = v[2];
+    let read = timestamp.part;
+    let timestamp = Scalar {
+        present: read.present,
+        value: timestamp.value,
+    };
+    let changeset = v[3];
+    let read = changeset.part;
+    let changeset = Scalar {
+        present: read.present,
+        value: changeset.value,
+    };
+    let uid = v[4];
+    let read = uid.part;
+    let uid = Scalar {
+        present: read.present,
+        value: uid.value,
+    };
+    let user = v[5];
+    let read = user.part;
+    let user = Scalar {
+        present: read.present,
+        value: user.value,
+    };
+    let visible = v[6];
+    let read = visible.part;
+    let visible = Scalar {
+        present: read.present,
+        value: visible.value,
+    };
+    InfoFields {
+        version,
+        timestamp,
+        changeset,
+        uid,
+        user,
+        visible,
+    }
+}
+
 // The slots by their types.
 fn info_of(v: InfoFields) -> WireInfo
     ensures { λ r. ⌜ r ≡ infoOf v ⌝ }
@@ -260,22 +215,32 @@ fn info_of(v: InfoFields) -> WireInfo
     }
 }
 
+// What the view makes of a field, by its number with its wire type; any other pair is passed over.
+pub(crate) fn info_rule(tag: u32) -> Rule
+    ensures { λ r. ⌜ ruleBy r ≡ ruleFor info (split tag) ⌝ }
+{
+    match tag {
+        info::VERSION => Rule::Scalar(1),
+        info::TIMESTAMP => Rule::Scalar(2),
+        info::CHANGESET => Rule::Scalar(3),
+        info::UID => Rule::Scalar(4),
+        info::USER_SID => Rule::Scalar(5),
+        info::VISIBLE => Rule::Scalar(6),
+        _ => Rule::Pass,
+    }
+}
+
 impl WireInfo {
     // The Info in `len` bytes from `start`: 14 where they pass the buffer, then the stream's refusals.
     pub fn parse(buffer: &[u8], start: usize, len: usize) -> InfoParse
         ensures { λ r. ⌜ parsedInfo r ≡ each (λ slots. infoOf (infoFields slots)) (viewIn info (now (buffer .entry)) start len) ⌝ }
     {
-        if buffer.len() < start {
-            return InfoParse::Refused(Refusal::Outside);
-        }
-        if buffer.len() - start < len {
-            return InfoParse::Refused(Refusal::Outside);
-        }
-        let end = start + len;
-        let r = info_fields(&buffer[start..end]);
-        match r {
-            InfoStored::Refused(n) => InfoParse::Refused(n),
-            InfoStored::Kept(v) => InfoParse::Parsed(info_of(v)),
+        let r = read_view(buffer, start, len, View::Info);
+        let v = r.slots;
+        let status = r.status;
+        match status {
+            Status::Refused(n) => InfoParse::Refused(n),
+            Status::Kept => InfoParse::Parsed(info_of(info_fields(v))),
         }
     }
 }

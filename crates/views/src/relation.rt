@@ -1,32 +1,21 @@
 // Relation: a relation's message.
 ghost use mathlib.Core.Path.{_≡_};
-ghost use Prim.Native.Nat.{_+_, _^_, _<_};
-ghost use Rattle.protobuf.specs.Answers.{fieldBy};
-ghost use Rattle.views.specs.Outcome.{each};
-ghost use Rattle.views.specs.View.{Slots, store, view, viewIn};
-ghost use Rattle.views.specs.Schema.{relation};
-ghost use Rattle.views.specs.Relation.{relationFields, relationOf, relationAt, keptRelation, parsedRelation};
-use crate::part::Part;
-use crate::schema::relation::ID;
-use crate::schema::relation::INFO;
-use crate::schema::relation::KEYS;
-use crate::schema::relation::KEYS_ONE;
-use crate::schema::relation::MEMIDS;
-use crate::schema::relation::MEMIDS_ONE;
-use crate::schema::relation::ROLES;
-use crate::schema::relation::ROLES_ONE;
-use crate::schema::relation::TYPES;
-use crate::schema::relation::TYPES_ONE;
-use crate::schema::relation::VALS;
-use crate::schema::relation::VALS_ONE;
-use crate::slot::Taken;
-use crate::slot::part_at;
-use crate::slot::take_message;
-use crate::slot::take_packed;
-use protobuf::message::Field;
-use protobuf::message::next_field;
+ghost use Rattle.fields.specs.Outcome.{each};
+ghost use Rattle.fields.specs.View.{viewIn};
+ghost use Rattle.protobuf.specs.Tag.{split};
+ghost use Rattle.fields.specs.Slot.{ruleBy, ruleFor};
+ghost use Rattle.views.specs.Slots.{slotsOf};
+ghost use Rattle.fields.specs.Schema.{relation};
+ghost use Rattle.views.specs.Relation.{relationOf, relationAt, parsedRelation};
+use crate::slots::Status;
+use crate::slots::View;
+use crate::slots::read_view;
+use fields::part::Part;
+use fields::schema::relation;
+use fields::slot::Rule;
+use fields::slot::Slot;
+use numbers::signed::int64;
 use protobuf::refusal::Refusal;
-use protobuf::signed::int64;
 
 pub struct WireRelation {
     pub id: i64,
@@ -43,191 +32,47 @@ pub enum RelationParse {
     Refused(Refusal),
 }
 
-// The message's slots, its parts counted from its own start.
-pub struct RelationFields {
-    pub id: u64,
-    pub keys: Part,
-    pub vals: Part,
-    pub info: Part,
-    pub roles: Part,
-    pub memids: Part,
-    pub types: Part,
-}
-
-pub enum RelationStored {
-    Kept(RelationFields),
-    Refused(Refusal),
-}
-
-// One field, by its number with its wire type; any other pair is passed over.
-fn store_relation(
-    v: RelationFields,
-    tag: u32,
-    value: u64,
-    start: usize,
-    len: usize,
-) -> RelationStored
-    ensures { λ r. ⌜ ((slots : Slots) → v ≡ relationFields slots → keptRelation r ≡ each relationFields (store relation slots (fieldBy tag value start len))) ⌝ }
+// What the view makes of a field, by its number with its wire type; any other pair is passed over.
+pub(crate) fn relation_rule(tag: u32) -> Rule
+    ensures { λ r. ⌜ ruleBy r ≡ ruleFor relation (split tag) ⌝ }
 {
-    let mut w = v;
     match tag {
-        ID => {
-            w.id = value;
-            RelationStored::Kept(w)
-        }
-        KEYS | KEYS_ONE => {
-            let old = v.keys;
-            let t = take_packed(old, start, len);
-            match t {
-                Taken::Refused(n) => RelationStored::Refused(n),
-                Taken::Kept(p) => {
-                    w.keys = p;
-                    RelationStored::Kept(w)
-                }
-            }
-        }
-        VALS | VALS_ONE => {
-            let old = v.vals;
-            let t = take_packed(old, start, len);
-            match t {
-                Taken::Refused(n) => RelationStored::Refused(n),
-                Taken::Kept(p) => {
-                    w.vals = p;
-                    RelationStored::Kept(w)
-                }
-            }
-        }
-        INFO => {
-            let old = v.info;
-            let t = take_message(old, start, len);
-            match t {
-                Taken::Refused(n) => RelationStored::Refused(n),
-                Taken::Kept(p) => {
-                    w.info = p;
-                    RelationStored::Kept(w)
-                }
-            }
-        }
-        ROLES | ROLES_ONE => {
-            let old = v.roles;
-            let t = take_packed(old, start, len);
-            match t {
-                Taken::Refused(n) => RelationStored::Refused(n),
-                Taken::Kept(p) => {
-                    w.roles = p;
-                    RelationStored::Kept(w)
-                }
-            }
-        }
-        MEMIDS | MEMIDS_ONE => {
-            let old = v.memids;
-            let t = take_packed(old, start, len);
-            match t {
-                Taken::Refused(n) => RelationStored::Refused(n),
-                Taken::Kept(p) => {
-                    w.memids = p;
-                    RelationStored::Kept(w)
-                }
-            }
-        }
-        TYPES | TYPES_ONE => {
-            let old = v.types;
-            let t = take_packed(old, start, len);
-            match t {
-                Taken::Refused(n) => RelationStored::Refused(n),
-                Taken::Kept(p) => {
-                    w.types = p;
-                    RelationStored::Kept(w)
-                }
-            }
-        }
-        _ => RelationStored::Kept(w),
+        relation::ID => Rule::Scalar(1),
+        relation::KEYS | relation::KEYS_ONE => Rule::Column(2),
+        relation::VALS | relation::VALS_ONE => Rule::Column(3),
+        relation::INFO => Rule::Message(4),
+        relation::ROLES | relation::ROLES_ONE => Rule::Column(8),
+        relation::MEMIDS | relation::MEMIDS_ONE => Rule::Column(9),
+        relation::TYPES | relation::TYPES_ONE => Rule::Column(10),
+        _ => Rule::Pass,
     }
 }
 
-// The message's fields, one after the other.
-fn relation_fields(s: &[u8]) -> RelationStored
-    ensures { λ r. ⌜ keptRelation r ≡ each relationFields (view relation (now (s .entry))) ⌝ }
+// The slots by name and type.
+fn relation_of(v: [Slot; 11]) -> WireRelation
+    ensures { λ r. ⌜ r ≡ relationOf (slotsOf v) ⌝ }
 {
-    let mut v = RelationFields {
-        id: 0,
-        keys: Part {
-            present: false,
-            start: 0,
-            len: 0,
-        },
-        vals: Part {
-            present: false,
-            start: 0,
-            len: 0,
-        },
-        info: Part {
-            present: false,
-            start: 0,
-            len: 0,
-        },
-        roles: Part {
-            present: false,
-            start: 0,
-            len: 0,
-        },
-        memids: Part {
-            present: false,
-            start: 0,
-            len: 0,
-        },
-        types: Part {
-            present: false,
-            start: 0,
-            len: 0,
-        },
-    };
-    let mut at = 0;
-    loop {
-        let f = next_field(s, at);
-        match f {
-            Field::Complete => return RelationStored::Kept(v),
-            Field::Cut(n) => return RelationStored::Refused(n),
-            Field::Spoilt { tag: _, refusal } => return RelationStored::Refused(refusal),
-            Field::Read {
-                tag,
-                value,
-                start,
-                len,
-                next,
-            } => {
-                let r = store_relation(v, tag, value, start, len);
-                match r {
-                    RelationStored::Refused(n) => return RelationStored::Refused(n),
-                    RelationStored::Kept(w) => {
-                        v = w;
-                        at = next;
-                    }
-                }
-            }
-        }
-    }
-}
-
-// The slots by their types, in a message that begins at `base`.
-fn relation_at(base: usize, v: RelationFields) -> WireRelation
-    requires { ⌜ (base + v .keys .start < 2 ^ 64) × (base + v .vals .start < 2 ^ 64) × (base + v .info .start < 2 ^ 64) × (base + v .roles .start < 2 ^ 64) × (base + v .memids .start < 2 ^ 64) × (base + v .types .start < 2 ^ 64) ⌝ }
-    ensures { λ r. ⌜ r ≡ relationOf base v ⌝ }
-{
-    let keys = v.keys;
-    let vals = v.vals;
-    let info = v.info;
-    let roles = v.roles;
-    let memids = v.memids;
-    let types = v.types;
+    let id = v[1].value;
+    let keys = v[2];
+    let keys = keys.part;
+    let vals = v[3];
+    let vals = vals.part;
+    let info = v[4];
+    let info = info.part;
+    let roles = v[8];
+    let roles = roles.part;
+    let memids = v[9];
+    let memids = memids.part;
+    let types = v[10];
+    let types = types.part;
     WireRelation {
-        id: int64(v.id),
-        keys: part_at(base, keys),
-        vals: part_at(base, vals),
-        info: part_at(base, info),
-        roles: part_at(base, roles),
-        memids: part_at(base, memids),
-        types: part_at(base, types),
+        id: int64(id),
+        keys,
+        vals,
+        info,
+        roles,
+        memids,
+        types,
     }
 }
 
@@ -237,17 +82,12 @@ impl WireRelation {
     pub fn parse(buffer: &[u8], start: usize, len: usize) -> RelationParse
         ensures { λ r. ⌜ parsedRelation r ≡ each (relationAt start) (viewIn relation (now (buffer .entry)) start len) ⌝ }
     {
-        if buffer.len() < start {
-            return RelationParse::Refused(Refusal::Outside);
-        }
-        if buffer.len() - start < len {
-            return RelationParse::Refused(Refusal::Outside);
-        }
-        let end = start + len;
-        let r = relation_fields(&buffer[start..end]);
-        match r {
-            RelationStored::Refused(n) => RelationParse::Refused(n),
-            RelationStored::Kept(v) => RelationParse::Parsed(relation_at(start, v)),
+        let r = read_view(buffer, start, len, View::Relation);
+        let v = r.slots;
+        let status = r.status;
+        match status {
+            Status::Refused(n) => RelationParse::Refused(n),
+            Status::Kept => RelationParse::Parsed(relation_of(v)),
         }
     }
 }

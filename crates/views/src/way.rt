@@ -1,33 +1,22 @@
 // Way: a way's message.
 ghost use mathlib.Core.Path.{_≡_};
-ghost use Prim.Native.Nat.{_+_, _^_, _<_};
-ghost use Rattle.protobuf.specs.Answers.{fieldBy};
-ghost use Rattle.views.specs.Outcome.{each};
-ghost use Rattle.views.specs.View.{Slots, store, view, viewIn};
-ghost use Rattle.views.specs.Schema.{way};
-ghost use Rattle.views.specs.Way.{wayFields, wayOf, wayAt, keptWay, parsedWay};
-use crate::part::Part;
-use crate::schema::way::ID;
-use crate::schema::way::INFO;
-use crate::schema::way::KEYS;
-use crate::schema::way::KEYS_ONE;
-use crate::schema::way::LAT;
-use crate::schema::way::LAT_ONE;
-use crate::schema::way::LON;
-use crate::schema::way::LON_ONE;
-use crate::schema::way::PINS;
-use crate::schema::way::REFS;
-use crate::schema::way::REFS_ONE;
-use crate::schema::way::VALS;
-use crate::schema::way::VALS_ONE;
-use crate::slot::Taken;
-use crate::slot::part_at;
-use crate::slot::take_message;
-use crate::slot::take_packed;
-use protobuf::message::Field;
-use protobuf::message::next_field;
+ghost use Rattle.fields.specs.Outcome.{each};
+ghost use Rattle.fields.specs.View.{viewIn};
+ghost use Rattle.protobuf.specs.Tag.{split};
+ghost use Rattle.fields.specs.Slot.{ruleBy, ruleFor};
+ghost use Rattle.views.specs.Slots.{slotsOf};
+ghost use Rattle.fields.specs.Schema.{way};
+ghost use Rattle.views.specs.Way.{wayOf, wayAt, parsedWay};
+use crate::slots::PLACE_20;
+use crate::slots::Status;
+use crate::slots::View;
+use crate::slots::read_view;
+use fields::part::Part;
+use fields::schema::way;
+use fields::slot::Rule;
+use fields::slot::Slot;
+use numbers::signed::int64;
 use protobuf::refusal::Refusal;
-use protobuf::signed::int64;
 
 pub struct WireWay {
     pub id: i64,
@@ -45,202 +34,51 @@ pub enum WayParse {
     Refused(Refusal),
 }
 
-// The message's slots, its parts counted from its own start.
-pub struct WayFields {
-    pub id: u64,
-    pub keys: Part,
-    pub vals: Part,
-    pub info: Part,
-    pub refs: Part,
-    pub lat: Part,
-    pub lon: Part,
-    pub pins: Part,
-}
-
-pub enum WayStored {
-    Kept(WayFields),
-    Refused(Refusal),
-}
-
-// One field, by its number with its wire type; any other pair is passed over.
-fn store_way(v: WayFields, tag: u32, value: u64, start: usize, len: usize) -> WayStored
-    ensures { λ r. ⌜ ((slots : Slots) → v ≡ wayFields slots → keptWay r ≡ each wayFields (store way slots (fieldBy tag value start len))) ⌝ }
+// What the view makes of a field, by its number with its wire type; any other pair is passed over.
+pub(crate) fn way_rule(tag: u32) -> Rule
+    ensures { λ r. ⌜ ruleBy r ≡ ruleFor way (split tag) ⌝ }
 {
-    let mut w = v;
     match tag {
-        ID => {
-            w.id = value;
-            WayStored::Kept(w)
-        }
-        KEYS | KEYS_ONE => {
-            let old = v.keys;
-            let t = take_packed(old, start, len);
-            match t {
-                Taken::Refused(n) => WayStored::Refused(n),
-                Taken::Kept(p) => {
-                    w.keys = p;
-                    WayStored::Kept(w)
-                }
-            }
-        }
-        VALS | VALS_ONE => {
-            let old = v.vals;
-            let t = take_packed(old, start, len);
-            match t {
-                Taken::Refused(n) => WayStored::Refused(n),
-                Taken::Kept(p) => {
-                    w.vals = p;
-                    WayStored::Kept(w)
-                }
-            }
-        }
-        INFO => {
-            let old = v.info;
-            let t = take_message(old, start, len);
-            match t {
-                Taken::Refused(n) => WayStored::Refused(n),
-                Taken::Kept(p) => {
-                    w.info = p;
-                    WayStored::Kept(w)
-                }
-            }
-        }
-        REFS | REFS_ONE => {
-            let old = v.refs;
-            let t = take_packed(old, start, len);
-            match t {
-                Taken::Refused(n) => WayStored::Refused(n),
-                Taken::Kept(p) => {
-                    w.refs = p;
-                    WayStored::Kept(w)
-                }
-            }
-        }
-        LAT | LAT_ONE => {
-            let old = v.lat;
-            let t = take_packed(old, start, len);
-            match t {
-                Taken::Refused(n) => WayStored::Refused(n),
-                Taken::Kept(p) => {
-                    w.lat = p;
-                    WayStored::Kept(w)
-                }
-            }
-        }
-        LON | LON_ONE => {
-            let old = v.lon;
-            let t = take_packed(old, start, len);
-            match t {
-                Taken::Refused(n) => WayStored::Refused(n),
-                Taken::Kept(p) => {
-                    w.lon = p;
-                    WayStored::Kept(w)
-                }
-            }
-        }
-        PINS => {
-            let part = Part {
-                present: true,
-                start,
-                len,
-            };
-            w.pins = part;
-            WayStored::Kept(w)
-        }
-        _ => WayStored::Kept(w),
+        way::ID => Rule::Scalar(1),
+        way::KEYS | way::KEYS_ONE => Rule::Column(2),
+        way::VALS | way::VALS_ONE => Rule::Column(3),
+        way::INFO => Rule::Message(4),
+        way::REFS | way::REFS_ONE => Rule::Column(8),
+        way::LAT | way::LAT_ONE => Rule::Column(9),
+        way::LON | way::LON_ONE => Rule::Column(10),
+        way::PINS => Rule::Bytes(PLACE_20),
+        _ => Rule::Pass,
     }
 }
 
-// The message's fields, one after the other.
-fn way_fields(s: &[u8]) -> WayStored
-    ensures { λ r. ⌜ keptWay r ≡ each wayFields (view way (now (s .entry))) ⌝ }
+// The slots by name and type.
+fn way_of(v: [Slot; 11]) -> WireWay
+    ensures { λ r. ⌜ r ≡ wayOf (slotsOf v) ⌝ }
 {
-    let mut v = WayFields {
-        id: 0,
-        keys: Part {
-            present: false,
-            start: 0,
-            len: 0,
-        },
-        vals: Part {
-            present: false,
-            start: 0,
-            len: 0,
-        },
-        info: Part {
-            present: false,
-            start: 0,
-            len: 0,
-        },
-        refs: Part {
-            present: false,
-            start: 0,
-            len: 0,
-        },
-        lat: Part {
-            present: false,
-            start: 0,
-            len: 0,
-        },
-        lon: Part {
-            present: false,
-            start: 0,
-            len: 0,
-        },
-        pins: Part {
-            present: false,
-            start: 0,
-            len: 0,
-        },
-    };
-    let mut at = 0;
-    loop {
-        let f = next_field(s, at);
-        match f {
-            Field::Complete => return WayStored::Kept(v),
-            Field::Cut(n) => return WayStored::Refused(n),
-            Field::Spoilt { tag: _, refusal } => return WayStored::Refused(refusal),
-            Field::Read {
-                tag,
-                value,
-                start,
-                len,
-                next,
-            } => {
-                let r = store_way(v, tag, value, start, len);
-                match r {
-                    WayStored::Refused(n) => return WayStored::Refused(n),
-                    WayStored::Kept(w) => {
-                        v = w;
-                        at = next;
-                    }
-                }
-            }
-        }
-    }
-}
-
-// The slots by their types, in a message that begins at `base`.
-fn way_at(base: usize, v: WayFields) -> WireWay
-    requires { ⌜ (base + v .keys .start < 2 ^ 64) × (base + v .vals .start < 2 ^ 64) × (base + v .info .start < 2 ^ 64) × (base + v .refs .start < 2 ^ 64) × (base + v .lat .start < 2 ^ 64) × (base + v .lon .start < 2 ^ 64) × (base + v .pins .start < 2 ^ 64) ⌝ }
-    ensures { λ r. ⌜ r ≡ wayOf base v ⌝ }
-{
-    let keys = v.keys;
-    let vals = v.vals;
-    let info = v.info;
-    let refs = v.refs;
-    let lat = v.lat;
-    let lon = v.lon;
-    let pins = v.pins;
+    let id = v[1].value;
+    let keys = v[2];
+    let keys = keys.part;
+    let vals = v[3];
+    let vals = vals.part;
+    let info = v[4];
+    let info = info.part;
+    let refs = v[8];
+    let refs = refs.part;
+    let lat = v[9];
+    let lat = lat.part;
+    let lon = v[10];
+    let lon = lon.part;
+    let pins = v[PLACE_20];
+    let pins = pins.part;
     WireWay {
-        id: int64(v.id),
-        keys: part_at(base, keys),
-        vals: part_at(base, vals),
-        info: part_at(base, info),
-        refs: part_at(base, refs),
-        lat: part_at(base, lat),
-        lon: part_at(base, lon),
-        pins: part_at(base, pins),
+        id: int64(id),
+        keys,
+        vals,
+        info,
+        refs,
+        lat,
+        lon,
+        pins,
     }
 }
 
@@ -250,17 +88,12 @@ impl WireWay {
     pub fn parse(buffer: &[u8], start: usize, len: usize) -> WayParse
         ensures { λ r. ⌜ parsedWay r ≡ each (wayAt start) (viewIn way (now (buffer .entry)) start len) ⌝ }
     {
-        if buffer.len() < start {
-            return WayParse::Refused(Refusal::Outside);
-        }
-        if buffer.len() - start < len {
-            return WayParse::Refused(Refusal::Outside);
-        }
-        let end = start + len;
-        let r = way_fields(&buffer[start..end]);
-        match r {
-            WayStored::Refused(n) => WayParse::Refused(n),
-            WayStored::Kept(v) => WayParse::Parsed(way_at(start, v)),
+        let r = read_view(buffer, start, len, View::Way);
+        let v = r.slots;
+        let status = r.status;
+        match status {
+            Status::Refused(n) => WayParse::Refused(n),
+            Status::Kept => WayParse::Parsed(way_of(v)),
         }
     }
 }

@@ -1,11 +1,12 @@
 -- PrimitiveBlock: a block's own fields, its slots by name, with the defaults of osmformat.proto.
 use Prim.Native.Nat.{ℕ}
-use Rattle.protobuf.specs.Read.{choose}
+use Rattle.numbers.specs.Choose.{choose}
 use Rattle.wire.specs.declared.primitive_block.BlockFields.{BlockFields}
 use Rattle.wire.specs.declared.primitive_block.BlockStored.{BlockStored}
 use Rattle.wire.specs.declared.primitive_block.BlockStored.the-variants as stored
-use Rattle.views.specs.Outcome.{Outcome, kept, refused}
-use Rattle.views.specs.View.{Slot, Slots}
+use Rattle.fields.specs.Outcome.{Outcome, kept, refused}
+use Rattle.fields.specs.declared.slot.Slot.{Slot}
+use Rattle.fields.specs.View.{Slots}
 
 -- the number of a field, or its default
 abbrev pub orElse : ℕ → Slot → ℕ

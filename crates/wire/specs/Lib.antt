@@ -4,3 +4,5 @@ pub mod Block
 pub mod Tables
 pub mod Lookup
 pub mod Scan
+pub mod Worked
+pub mod Limits

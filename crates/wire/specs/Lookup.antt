@@ -1,26 +1,29 @@
--- Strings and groups by their number, through the tables behind a block.
+-- Strings and groups by their number: through the tables behind a block, on any buffer and record; and of a block's own bytes, with no record
+-- and no table, which is what the first come to on what a scan left.
 use Prim.Native.Nat.{ℕ, _+_, _*_}
-use mathlib.Core.List.{List, []}
+use mathlib.Core.List.{List, [], _∷_, map}
+use mathlib.Core.Option.{Option, none, some}
 use mathlib.Core.Bool.{Bool, false}
-use lib.ListN.{length, take, drop}
+use lib.ListN.{length, getElem?}
 use lib.Dec.{leb, ltb}
 use Rattle.protobuf.specs.declared.refusal.Refusal.the-variants.{Outside}
-use Rattle.protobuf.specs.Read.{choose}
-use Rattle.views.specs.declared.part.Part.{Part}
+use Rattle.numbers.specs.Choose.{choose}
+use Rattle.numbers.specs.Little.{numberAt}
+use Rattle.protobuf.specs.Message.{message}
+use Rattle.fields.specs.declared.part.Part.{Part}
 use Rattle.wire.specs.declared.record.WireBlock.{WireBlock}
 use Rattle.wire.specs.declared.lookup.Got.{Got}
 use Rattle.wire.specs.declared.lookup.Got.the-variants as got
 use Rattle.wire.specs.declared.lookup.GroupRange.{GroupRange}
 use Rattle.wire.specs.declared.lookup.GroupRange.the-variants as range
-use Rattle.views.specs.View.{partBy}
-use Rattle.wire.specs.Tables.{number32}
+use Rattle.fields.specs.Part.{partBy, noPart, moved, isInside, bytesIn}
+use Rattle.fields.specs.Parts.{partsOf}
+
+-- ---- through the tables
 
 -- the part that the entry at a place of a table names
 abbrev pub entryAt : List ℕ → ℕ → Part
-entryAt s place = partBy (number32 s place) (number32 s (place + 4))
-
-abbrev pub isInside : List ℕ → Part → Bool
-isInside s p = leb (p .start + p .len) (length s)
+entryAt s place = partBy (numberAt 4 s place) (numberAt 4 s (place + 4))
 
 -- a string: none exactly if the index is not below the count or its 8 table bytes pass the buffer; 14 if the entry's range does
 unfoldable pub getAt : List ℕ → WireBlock → ℕ → Got
@@ -43,6 +46,36 @@ groupAt s r index =
     (choose (isInside s (entryAt s (r .grouptable + 8 * index))) (range.Range (entryAt s (r .grouptable + 8 * index))) (range.Refused Outside))
     (range.Refused Outside)
 
--- the bytes of a part: none where it is not present or passes the buffer
-unfoldable pub bytesOf : List ℕ → Part → List ℕ
-bytesOf s p = choose (choose (p .present) (isInside s p) false) (take (p .len) (drop (p .start) s)) []
+-- ---- of the block's own bytes
+
+-- the last of some parts, or another where there are none
+unfoldable pub lastOf : Part → List Part → Part
+lastOf other [] = other
+lastOf other (p ∷ rest) = lastOf p rest
+
+-- the chosen string table is the last, even an empty one
+unfoldable pub chosenTable : List ℕ → Part
+chosenTable block = lastOf noPart (partsOf 1 (message block))
+
+-- its strings, as parts of the block
+unfoldable pub stringParts : List ℕ → List Part
+stringParts block = map (moved (chosenTable block .start)) (partsOf 1 (message (bytesIn block (chosenTable block))))
+
+unfoldable pub groupParts : List ℕ → List Part
+groupParts block = partsOf 2 (message block)
+
+-- a string by its number: none at the count and behind it
+abbrev pub gotBy : Option Part → Got
+gotBy none = got.None
+gotBy (some p) = got.Text p
+
+abbrev pub stringOf : List ℕ → ℕ → Got
+stringOf block i = gotBy (getElem? (stringParts block) i)
+
+-- a group by its number: 14 at the count and behind it
+abbrev pub rangeBy : Option Part → GroupRange
+rangeBy none = range.Refused Outside
+rangeBy (some p) = range.Range p
+
+abbrev pub groupOf : List ℕ → ℕ → GroupRange
+groupOf block i = rangeBy (getElem? (groupParts block) i)

@@ -6,8 +6,9 @@ use mathlib.Core.List.{List, _++_}
 use lib.ListN.{length, take, drop}
 use lib.Dec.{leb}
 use Rattle.protobuf.specs.declared.refusal.Refusal.the-variants.{BlockTooLong, NoRoom, Outside}
-use Rattle.protobuf.specs.Read.{choose}
-use Rattle.protobuf.specs.Signed.{twos}
+use Rattle.numbers.specs.Choose.{choose}
+use Rattle.numbers.specs.Signed.{twos}
+use Rattle.numbers.specs.Little.{written}
 use Rattle.protobuf.specs.Message.{message}
 use Rattle.wire.specs.declared.record.WireBlock.{WireBlock}
 use Rattle.wire.specs.declared.primitive_block.BlockFields.{BlockFields}
@@ -15,11 +16,11 @@ use Rattle.wire.specs.declared.scan.Count.{Count}
 use Rattle.wire.specs.declared.scan.Count.the-variants as count
 use Rattle.wire.specs.declared.scan.BlockScan.{BlockScan}
 use Rattle.wire.specs.declared.scan.BlockScan.the-variants as scan
-use Rattle.views.specs.Outcome.{Outcome, kept, refused, onward}
-use Rattle.views.specs.View.{Slots, view}
-use Rattle.views.specs.Schema.{primitiveBlock, stringTable}
+use Rattle.fields.specs.Outcome.{Outcome, kept, refused, onward}
+use Rattle.fields.specs.View.{Slots, view}
+use Rattle.fields.specs.Schema.{primitiveBlock, stringTable}
 use Rattle.wire.specs.Block.{blockFields}
-use Rattle.wire.specs.Tables.{entries, written}
+use Rattle.wire.specs.Tables.{entries}
 
 -- 32 MiB
 abbrev pub limit : ℕ
@@ -96,6 +97,13 @@ pub record StringsRead (s : List ℕ) (block : ℕ) (top : BlockFields) (strings
 abbrev pub afterScan : List ℕ → ℕ → Outcome Scanned → List ℕ
 afterScan s block (kept x) = written s block (x .table)
 afterScan s block (refused r) = s
+
+-- s and r are the buffer and the record as a scan of the first n bytes of b left them
+pub record Scanned-as (s : List ℕ) (r : WireBlock) (b : List ℕ) (n : ℕ) : Type 0 where
+  pub scan : Scanned
+  pub so : scanned b n ≡ kept scan
+  pub buffer : s ≡ written b n (scan .table)
+  pub meta : r ≡ scan .block
 
 abbrev pub counted : Count → Outcome ℕ
 counted (count.Counted n) = kept n

@@ -4,11 +4,11 @@ use Prim.Native.Nat.{ℕ, _+_, _/_, _%_, _≤_}
 use mathlib.Core.Path.{_≡_}
 use mathlib.Core.List.{List, [], _++_}
 use lib.ListN.{length, take, drop}
-use Rattle.protobuf.specs.Read.{choose}
-use Rattle.protobuf.specs.Little.{little, bytes}
+use Rattle.numbers.specs.Choose.{choose}
+use Rattle.numbers.specs.Little.{bytes}
 use Rattle.protobuf.specs.Stream.{end, more}
 use Rattle.protobuf.specs.Message.{Message, message}
-use Rattle.views.specs.Group.{isPart}
+use Rattle.fields.specs.Parts.{isPart}
 
 abbrev pub entry : ℕ → ℕ → List ℕ
 entry start len = bytes 4 start ++ bytes 4 len
@@ -18,16 +18,8 @@ unfoldable pub entries : ℕ → ℕ → Message → List ℕ
 entries base k (end e) = []
 entries base k (more f rest) = choose (isPart k f) (entry (base + f .payload .start) (f .payload .len)) [] ++ entries base k rest
 
--- the bytes with others in the place of those from `at` on
-abbrev pub written : List ℕ → ℕ → List ℕ → List ℕ
-written s at new = take at s ++ (new ++ drop (at + length new) s)
-
 -- there is room from `to` on for the entries of a message that stands before it
 pub record Room (s : List ℕ) (base len tag to : ℕ) : Type 0 where
   pub parts : tag % 8 ≡ 2
   pub before : base + len ≤ to
   pub room : to + length (entries base (tag / 8) (message (take len (drop base s)))) ≤ length s
-
--- the number in 4 little-endian bytes
-unfoldable pub number32 : List ℕ → ℕ → ℕ
-number32 s at = little (take 4 (drop at s))

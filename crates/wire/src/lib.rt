@@ -4,5 +4,4 @@ pub mod lookup;
 pub mod primitive_block;
 pub mod record;
 pub mod scan;
-pub mod schema;
 pub mod tables;

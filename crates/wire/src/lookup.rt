@@ -1,13 +1,16 @@
-// Strings and groups by their number, through the tables behind a block, and the bytes of a part.
+// Strings and groups by their number, through the tables behind a block.
 ghost use mathlib.Core.Path.{_≡_};
-ghost use Prim.Native.Nat.{_+_, _*_, _^_, _≤_, _<_};
+ghost use mathlib.Core.List.{List};
+ghost use Prim.Native.Nat.{ℕ, _+_, _*_, _≤_};
 ghost use lib.Dec.{leb};
-ghost use lib.ListN.{length};
-ghost use Rattle.wire.specs.Tables;
-ghost use Rattle.wire.specs.Lookup.{entryAt, getAt, isRecordInside, groupAt, bytesOf};
+ghost use lib.ListN.{length, take};
+ghost use Rattle.wire.specs.Scan.{Scanned-as};
+ghost use Rattle.wire.specs.Lookup.{entryAt, getAt, isRecordInside, groupAt, stringOf, groupOf};
 use crate::record::WireBlock;
+use fields::part::Part;
+use fields::part::part_fits;
+use numbers::little::read_u32;
 use protobuf::refusal::Refusal;
-use views::part::Part;
 
 pub enum Got {
     Text(Part),
@@ -20,18 +23,6 @@ pub enum GroupRange {
     Refused(Refusal),
 }
 
-// The number in 4 little-endian bytes.
-fn number32(s: &[u8], at: usize) -> usize
-    requires { ⌜ at + 4 ≤ length (now s) ⌝ }
-    ensures { λ r. ⌜ (r ≡ Tables.number32 (now (s .entry)) at) × (r < 2 ^ 32) ⌝ }
-{
-    let b0 = s[at];
-    let b1 = s[at + 1];
-    let b2 = s[at + 2];
-    let b3 = s[at + 3];
-    (b0 as usize) + (b1 as usize) * 256 + (b2 as usize) * 65_536 + (b3 as usize) * 16_777_216
-}
-
 // The part that a table's entry names.
 fn entry_at(s: &[u8], place: usize) -> Part
     requires { ⌜ place + 8 ≤ length (now s) ⌝ }
@@ -39,16 +30,9 @@ fn entry_at(s: &[u8], place: usize) -> Part
 {
     Part {
         present: true,
-        start: number32(s, place),
-        len: number32(s, place + 4),
+        start: read_u32(s, place) as usize,
+        len: read_u32(s, place + 4) as usize,
     }
-}
-
-// Whether `len` bytes from `start` end within `n`.
-fn part_fits(n: usize, start: usize, len: usize) -> bool
-    ensures { λ r. ⌜ r ≡ leb (start + len) n ⌝ }
-{
-    if n < start { false } else { len <= n - start }
 }
 
 // Whether a table of `count` entries of 8 bytes from `place` ends within `n`.
@@ -77,9 +61,11 @@ pub fn is_inside(buffer: &[u8], block: WireBlock) -> bool
 }
 
 // The string of a number, by the record's string count and table place alone: none where the number is not below the count or its 8 table
-// bytes pass the buffer, and 14 where the range that they name does.
+// bytes pass the buffer, and 14 where the range that they name does. On the buffer and the record that a scan left it is the block's own
+// string of that number, none at the count and behind it.
 pub fn get(buffer: &[u8], block: WireBlock, index: usize) -> Got
-    ensures { λ r. ⌜ r ≡ getAt (now (buffer .entry)) block index ⌝ }
+    ensures answer { λ r. ⌜ r ≡ getAt (now (buffer .entry)) block index ⌝ }
+    ensures scanned { λ r. ⌜ ((b : List ℕ) (n : ℕ) → Scanned-as (now (buffer .entry)) block b n → r ≡ stringOf (take n b) index) ⌝ }
 {
     let n = buffer.len();
     let table = block.stringtable;
@@ -101,9 +87,11 @@ pub fn get(buffer: &[u8], block: WireBlock, index: usize) -> Got
 }
 
 // The group of a number: 14 where the block or a table passes the buffer, the number is not below the count, or the range that its entry
-// names passes the buffer.
+// names passes the buffer. On the buffer and the record that a scan left it is the block's own group of that number, 14 at the count and
+// behind it.
 pub fn group(buffer: &[u8], block: WireBlock, index: usize) -> GroupRange
-    ensures { λ r. ⌜ r ≡ groupAt (now (buffer .entry)) block index ⌝ }
+    ensures answer { λ r. ⌜ r ≡ groupAt (now (buffer .entry)) block index ⌝ }
+    ensures scanned { λ r. ⌜ ((b : List ℕ) (n : ℕ) → Scanned-as (now (buffer .entry)) block b n → r ≡ groupOf (take n b) index) ⌝ }
 {
     let n = buffer.len();
     let table = block.grouptable;
@@ -119,19 +107,4 @@ pub fn group(buffer: &[u8], block: WireBlock, index: usize) -> GroupRange
     } else {
         GroupRange::Refused(Refusal::Outside)
     }
-}
-
-// The bytes of a part, themselves and not a copy: empty where nothing is present or the range passes the buffer.
-pub fn bytes_of(buffer: &[u8], part: Part) -> &[u8]
-    ensures { λ r. ⌜ now r ≡ bytesOf (now (buffer .entry)) part ⌝ }
-{
-    let start = part.start;
-    let len = part.len;
-    if !part.present {
-        return &buffer[..0];
-    }
-    if !part_fits(buffer.len(), start, len) {
-        return &buffer[..0];
-    }
-    &buffer[start..start + len]
 }

@@ -2,20 +2,17 @@
 ghost use mathlib.Core.Path.{_≡_};
 ghost use Prim.Native.Nat.{_+_, _^_, _≤_, _<_};
 ghost use Rattle.protobuf.specs.Answers.{fieldBy};
-ghost use Rattle.views.specs.Outcome.{each};
-ghost use Rattle.views.specs.View.{Slots, store, view, isInt32};
-ghost use Rattle.views.specs.Schema.{primitiveBlock};
+ghost use Rattle.fields.specs.Outcome.{each};
+ghost use Rattle.fields.specs.View.{Slots, store, view};
+ghost use Rattle.fields.specs.Schema.{primitiveBlock};
 ghost use Rattle.wire.specs.Block.{blockFields, keptBlock, groupsOf};
-use crate::schema::primitive_block::DATE_GRANULARITY;
-use crate::schema::primitive_block::GRANULARITY;
-use crate::schema::primitive_block::GROUP;
-use crate::schema::primitive_block::LAT_OFFSET;
-use crate::schema::primitive_block::LON_OFFSET;
-use crate::schema::primitive_block::STRING_TABLE;
+use fields::part::NONE;
+use fields::part::Part;
+use fields::schema::primitive_block;
+use numbers::signed::is_int32;
 use protobuf::message::Field;
 use protobuf::message::next_field;
 use protobuf::refusal::Refusal;
-use views::part::Part;
 
 // The block's slots, numbers as read, with the defaults of a field that is missing.
 pub struct BlockFields {
@@ -32,17 +29,6 @@ pub enum BlockStored {
     Refused(Refusal),
 }
 
-// Whether int32 holds a number of 64 bits.
-fn is_int32(value: u64) -> bool
-    ensures { λ r. ⌜ r ≡ isInt32 value ⌝ }
-{
-    if value < 0x8000_0000 {
-        true
-    } else {
-        0xFFFF_FFFF_8000_0000 <= value
-    }
-}
-
 // One field, by its number with its wire type; any other pair is passed over. The last string table wins.
 fn store_block(v: BlockFields, tag: u32, value: u64, start: usize, len: usize) -> BlockStored
     requires { ⌜ v .groups + 1 < 2 ^ 64 ⌝ }
@@ -51,7 +37,7 @@ fn store_block(v: BlockFields, tag: u32, value: u64, start: usize, len: usize) -
 {
     let mut w = v;
     match tag {
-        STRING_TABLE => {
+        primitive_block::STRING_TABLE => {
             let part = Part {
                 present: true,
                 start,
@@ -60,12 +46,12 @@ fn store_block(v: BlockFields, tag: u32, value: u64, start: usize, len: usize) -
             w.strings = part;
             BlockStored::Kept(w)
         }
-        GROUP => {
+        primitive_block::GROUP => {
             let groups = v.groups + 1;
             w.groups = groups;
             BlockStored::Kept(w)
         }
-        GRANULARITY => {
+        primitive_block::GRANULARITY => {
             if is_int32(value) {
                 w.granularity = value;
                 BlockStored::Kept(w)
@@ -73,7 +59,7 @@ fn store_block(v: BlockFields, tag: u32, value: u64, start: usize, len: usize) -
                 BlockStored::Refused(Refusal::Granularity)
             }
         }
-        DATE_GRANULARITY => {
+        primitive_block::DATE_GRANULARITY => {
             if is_int32(value) {
                 w.dategranularity = value;
                 BlockStored::Kept(w)
@@ -81,11 +67,11 @@ fn store_block(v: BlockFields, tag: u32, value: u64, start: usize, len: usize) -
                 BlockStored::Refused(Refusal::Granularity)
             }
         }
-        LAT_OFFSET => {
+        primitive_block::LAT_OFFSET => {
             w.latoffset = value;
             BlockStored::Kept(w)
         }
-        LON_OFFSET => {
+        primitive_block::LON_OFFSET => {
             w.lonoffset = value;
             BlockStored::Kept(w)
         }
@@ -98,11 +84,7 @@ pub fn scan_block_fields(s: &[u8]) -> BlockStored
     ensures { λ r. ⌜ keptBlock r ≡ each blockFields (view primitiveBlock (now (s .entry))) ⌝ }
 {
     let mut v = BlockFields {
-        strings: Part {
-            present: false,
-            start: 0,
-            len: 0,
-        },
+        strings: NONE,
         groups: 0,
         granularity: 100,
         dategranularity: 1000,

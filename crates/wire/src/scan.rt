@@ -1,36 +1,25 @@
 // The scan of a block: its own fields and its chosen string table are read whole, and the tables are written behind it.
 ghost use mathlib.Core.Path.{_≡_};
-ghost use Rattle.views.specs.Outcome.{each};
-ghost use Rattle.views.specs.View.{view};
-ghost use Rattle.views.specs.Schema.{stringTable};
+ghost use Rattle.protobuf.specs.declared.refusal.Refusal.the-variants.{NoRoom};
+ghost use Rattle.fields.specs.Outcome.{each, refused};
+ghost use Rattle.fields.specs.View.{view};
+ghost use Rattle.fields.specs.Schema.{stringTable};
 ghost use Prim.Native.Nat.{_+_, _*_, _^_, _≤_, _<_};
 ghost use lib.Dec.{leb};
 ghost use lib.ListN.{length, take};
-ghost use Rattle.wire.specs.Scan.{
-  scanned,
-  stringCount,
-  afterScan,
-  counted,
-  scannedRecord,
-  recordBy,
-  tablesStage,
-  stringsStage,
-  FieldsRead,
-  StringsRead,
-  meta,
-};
+ghost use Rattle.wire.specs.Scan.{scanned, stringCount, afterScan, counted, scannedRecord, recordBy, tablesStage, stringsStage, FieldsRead, StringsRead, meta};
 use crate::primitive_block::BlockFields;
 use crate::primitive_block::BlockStored;
 use crate::primitive_block::scan_block_fields;
 use crate::record::WireBlock;
-use crate::schema::primitive_block::GROUP;
-use crate::schema::string_table::STRINGS;
 use crate::tables::write_entries;
+use fields::schema::primitive_block::GROUP;
+use fields::schema::string_table::STRINGS;
+use numbers::signed::int32;
+use numbers::signed::int64;
 use protobuf::message::Field;
 use protobuf::message::next_field;
 use protobuf::refusal::Refusal;
-use protobuf::signed::int32;
-use protobuf::signed::int64;
 
 // The longest block that is scanned.
 pub const LIMIT: usize = 33554432;
@@ -106,8 +95,8 @@ fn record_of(block: usize, top: BlockFields, strings: usize) -> WireBlock
     }
 }
 
-// The last stage: 13 where there is no room for the tables, else they are written.
-fn scan_tables(buffer: &mut [u8], block: usize, top: BlockFields, strings: usize) -> BlockScan
+// The third stage: 13 where there is no room for the tables, else they are written.
+fn inline_tables(buffer: &mut [u8], block: usize, top: BlockFields, strings: usize) -> BlockScan
     requires { ⌜ StringsRead (now buffer) block top strings ⌝ }
     ensures answer { λ r. ⌜ scannedRecord r ≡ each meta (tablesStage (length (now (buffer .entry))) block (take block (now (buffer .entry))) top strings) ⌝ }
     ensures after { λ r. ⌜ now (buffer .exit) ≡ afterScan (now (buffer .entry)) block (tablesStage (length (now (buffer .entry))) block (take block (now (buffer .entry))) top strings) ⌝ }
@@ -124,7 +113,7 @@ fn scan_tables(buffer: &mut [u8], block: usize, top: BlockFields, strings: usize
     }
 }
 
-// The stage before: the chosen string table is read whole.
+// The second stage: the chosen string table is read whole.
 fn scan_strings(buffer: &mut [u8], block: usize, top: BlockFields) -> BlockScan
     requires { ⌜ FieldsRead (now buffer) block top ⌝ }
     ensures answer { λ r. ⌜ scannedRecord r ≡ each meta (stringsStage (length (now (buffer .entry))) block (take block (now (buffer .entry))) top) ⌝ }
@@ -136,16 +125,18 @@ fn scan_strings(buffer: &mut [u8], block: usize, top: BlockFields) -> BlockScan
     let c = count_strings(&buffer[start..end]);
     match c {
         Count::Refused(n) => BlockScan::Refused(n),
-        Count::Counted(n) => scan_tables(buffer, block, top, n),
+        Count::Counted(n) => inline_tables(buffer, block, top, n),
     }
 }
 
-// The block in the first `block` bytes: 14 where the length passes the buffer, 1 where it is above the limit, then the refusals of all
-// its fields (8 among them), of its last string table, and 13 where the tables have no room behind it. The tables are written right
-// behind the block, and no other byte changes; a refusal writes nothing.
+// The block in the first `block` bytes: 14 where the length passes the buffer, 1 where it is above the limit; then, in three stages, the
+// refusals of all its fields (8 among them), those of its last string table, and 13 where the tables have no room behind it. The tables are
+// written right behind the block, and no other byte changes; a refusal writes nothing. A buffer of five times the block's bytes is never too
+// short.
 pub fn scan(buffer: &mut [u8], block: usize) -> BlockScan
     ensures answer { λ r. ⌜ scannedRecord r ≡ each meta (scanned (now (buffer .entry)) block) ⌝ }
     ensures after { λ r. ⌜ now (buffer .exit) ≡ afterScan (now (buffer .entry)) block (scanned (now (buffer .entry)) block) ⌝ }
+    ensures room { λ r. ⌜ (5 * block ≤ length (now (buffer .entry)) → scannedRecord r ≡ refused NoRoom → ⊥) ⌝ }
 {
     if buffer.len() < block {
         return BlockScan::Refused(Refusal::Outside);

@@ -1,32 +1,22 @@
 // The tables behind a block: entries of an offset and a length, 4 little-endian bytes each.
 ghost use mathlib.Core.Path.{_≡_};
-ghost use mathlib.Core.List.{_++_};
-ghost use Prim.Native.Nat.{_+_, _/_, _≤_};
+ghost use Prim.Native.Nat.{_/_, _≤_};
 ghost use lib.ListN.{length, take, drop};
+ghost use Rattle.numbers.specs.Little.{written};
 ghost use Rattle.protobuf.specs.Message.{message};
-ghost use Rattle.wire.specs.Tables.{entry, entries, written, Room};
+ghost use Rattle.wire.specs.Tables.{entry, entries, Room};
+use numbers::little::write_u32;
 use protobuf::message::Field;
 use protobuf::message::next_field;
 
-// One entry, at the start of the tail that is lent.
+// One entry, at the start of the tail that is lent: the lowest 4 bytes of each number, which are all that an offset or a length within a
+// block has.
 fn write_entry(tail: &mut [u8], start: usize, len: usize)
     requires { ⌜ 8 ≤ length (now tail) ⌝ }
-    ensures { λ r. ⌜ now (tail .exit) ≡ entry start len ++ drop 8 (now (tail .entry)) ⌝ }
+    ensures { λ r. ⌜ now (tail .exit) ≡ written (now (tail .entry)) 0 (entry start len) ⌝ }
 {
-    let start1 = start / 256;
-    let start2 = start1 / 256;
-    let start3 = start2 / 256;
-    let len1 = len / 256;
-    let len2 = len1 / 256;
-    let len3 = len2 / 256;
-    tail[0] = (start % 256) as u8;
-    tail[1] = (start1 % 256) as u8;
-    tail[2] = (start2 % 256) as u8;
-    tail[3] = (start3 % 256) as u8;
-    tail[4] = (len % 256) as u8;
-    tail[5] = (len1 % 256) as u8;
-    tail[6] = (len2 % 256) as u8;
-    tail[7] = (len3 % 256) as u8;
+    write_u32(tail, 0, (start % 0x1_0000_0000) as u32);
+    write_u32(tail, 4, (len % 0x1_0000_0000) as u32);
 }
 
 // The entries of a message's fields of `tag` (field number times 8, plus wire type 2), from `to` on, where the message is the `len` bytes

@@ -42,7 +42,7 @@ fn run(path: &str) -> Result<(), String> {
     let mut sides: Vec<(&str, &mut dyn Pass)> = Vec::new();
     if let Some(side) = &mut through_c {
         println!("both sides have the same records and tables");
-        sides.push(("proved", side.as_mut()));
+        sides.push(("library", side.as_mut()));
     }
     sides.push(("reader", &mut by_reader));
     table::print(&timing::best(&mut sides)?, bytes);

@@ -48,11 +48,9 @@ impl<S: Side> Block<S> {
     fn new(bytes: &[u8]) -> Result<Block<S>, u32> {
         let len = bytes.len();
         let mut buffer = bytes.to_vec();
-        // A table has no more entries than the block has bytes.
-        buffer.resize(9 * len, 0);
+        buffer.resize(reader::always_enough(len as u64) as usize, 0);
         let record = S::scan(&mut buffer, len)?;
-        let read = S::read(&record);
-        buffer.truncate((read.group_table + 8 * read.group_count) as usize);
+        buffer.truncate(S::read(&record).end() as usize);
         buffer.shrink_to_fit();
         Ok(Block {
             len,

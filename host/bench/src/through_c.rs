@@ -14,21 +14,21 @@ pub fn prepared(
 ) -> Result<Option<Box<dyn Pass>>, String> {
     let through_c = Prepared::<ThroughC>::new(blocks)?;
     through_c.must_equal(by_reader)?;
+    println!("library: {}", proved::ARCHIVE);
     Ok(Some(Box::new(through_c)))
 }
 
 struct ThroughC;
 
-/// Nine numbers, each in 8 little-endian bytes.
-type Bytes = [u8; 72];
+type Bytes = [u8; proved::RECORD_SIZE];
 
 impl Side for ThroughC {
     type Record = Bytes;
 
     fn scan(buffer: &mut [u8], len: usize) -> Result<Bytes, u32> {
-        let mut record = [0; 72];
+        let mut record = [0; proved::RECORD_SIZE];
         match proved::scan(buffer, len, &mut record) {
-            0 => Ok(record),
+            proved::OK => Ok(record),
             refused => Err(refused),
         }
     }
@@ -38,20 +38,17 @@ impl Side for ThroughC {
     }
 
     fn read(record: &Bytes) -> Record {
-        let number = |at: usize| {
-            let bytes = record[8 * at..8 * at + 8].iter().rev();
-            bytes.fold(0u64, |n, &byte| n << 8 | u64::from(byte))
-        };
+        let number = |place| proved::number(record, place);
         Record {
-            block_len: number(0),
-            string_count: number(1),
-            string_table: number(2),
-            group_count: number(3),
-            group_table: number(4),
-            granularity: number(5) as i32,
-            date_granularity: number(6) as i32,
-            lat_offset: number(7) as i64,
-            lon_offset: number(8) as i64,
+            block_len: number(proved::RECORD_BLOCK),
+            string_count: number(proved::RECORD_STRINGS),
+            string_table: number(proved::RECORD_STRINGTABLE),
+            group_count: number(proved::RECORD_GROUPS),
+            group_table: number(proved::RECORD_GROUPTABLE),
+            granularity: number(proved::RECORD_GRANULARITY) as i32,
+            date_granularity: number(proved::RECORD_DATEGRANULARITY) as i32,
+            lat_offset: number(proved::RECORD_LATOFFSET) as i64,
+            lon_offset: number(proved::RECORD_LONOFFSET) as i64,
         }
     }
 }

@@ -57,11 +57,14 @@ pub fn check(path: &str) -> Result<String, String> {
             through_c += u64::from(asked);
         }
     }
-    Ok(if by_c::LINKED {
-        format!("{count} answers hold, {through_c} of them through C too")
-    } else {
-        format!("{count} answers hold")
-    })
+    let mut text = format!("{count} answers hold by the simple reader");
+    if by_published::COMMIT.is_some() {
+        text.push_str(", and by the published Rust where it has one");
+    }
+    if by_c::ARCHIVE.is_some() {
+        text.push_str(&format!(", and {through_c} of them through C"));
+    }
+    Ok(text)
 }
 
 /// Whether the line was asked through C too.

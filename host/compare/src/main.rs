@@ -22,6 +22,7 @@ mod outside;
 mod pairs;
 mod question;
 mod samples;
+mod sides;
 mod sweep;
 mod tally;
 mod text;
@@ -62,9 +63,6 @@ fn run(args: &Args) -> Result<bool, String> {
 }
 
 fn compare(args: &Args) -> Result<bool, String> {
-    if by_published::COMMIT.is_none() {
-        println!("the published Rust is not at hand: the fixed list stands for it");
-    }
     let started = Instant::now();
     let mut judge = Judge::default();
     sweep::fixed(&mut judge);
@@ -83,5 +81,6 @@ fn compare(args: &Args) -> Result<bool, String> {
         judge.tally.close();
     }
     judge.tally.print();
+    println!("{}", sides::told(args.list.is_some(), args.maps.is_some()));
     Ok(judge.tally.unexplained_count() == 0)
 }

@@ -62,7 +62,7 @@ fn sides() -> String {
     if by_published::COMMIT.is_some() {
         sides.push("by the published Rust");
     }
-    if by_c::LINKED {
+    if by_c::ARCHIVE.is_some() {
         sides.push("through C");
     }
     sides.join(", ")

@@ -127,7 +127,11 @@ impl Tally {
     }
 
     fn print_rows(&self) {
-        let column = if by_c::LINKED { " through C" } else { "" };
+        let column = if by_c::ARCHIVE.is_some() {
+            " through C"
+        } else {
+            ""
+        };
         println!(
             "{:<10} {:>9} {:>9}{column}  refused by number",
             "question", "asked", "taken"
@@ -151,7 +155,7 @@ impl Tally {
     fn column_through_c(&self, name: &str) -> String {
         match self.through_c.get(name) {
             Some(times) => format!(" {times:>9}"),
-            None if by_c::LINKED => format!(" {:>9}", ""),
+            None if by_c::ARCHIVE.is_some() => format!(" {:>9}", ""),
             None => String::new(),
         }
     }

@@ -3,8 +3,8 @@
 
 use crate::question::Ask;
 
-/// Whether the proved library is linked.
-pub const LINKED: bool = false;
+/// The library that is linked.
+pub const ARCHIVE: Option<&str> = None;
 
 pub fn answer(_ask: Ask, _bytes: &[u8]) -> Option<String> {
     None

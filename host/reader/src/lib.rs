@@ -34,7 +34,7 @@ pub use listing::{full_listing, listing, FullListing, Listing};
 pub use number::Refusal;
 pub use part::{bytes_of, Part};
 pub use run::{all_steps, walked, walked_full};
-pub use scan::{get, group, role_text, scan, Got, Record};
+pub use scan::{always_enough, get, group, role_text, scan, Got, Record};
 pub use subwalk::{
     dense_tags_step, members_step, refs_step, tags_step, DenseTags, Member, MemberId, Members,
     Refs, ShownTag, Tags,

@@ -57,7 +57,19 @@ pub struct BlockFields {
     pub lon_offset: i64,
 }
 
+/// In a buffer of so many bytes a block's tables always have room behind it:
+/// the shortest string and the shortest group take 2 bytes of the block each,
+/// and 8 of a table.
+pub fn always_enough(block_len: u64) -> u64 {
+    block_len + ENTRY * (block_len / 2)
+}
+
 impl Record {
+    /// Where the tables of a scanned block end.
+    pub fn end(&self) -> u64 {
+        self.group_table + ENTRY * self.group_count
+    }
+
     /// A record is inside where its block and both tables are.
     pub fn is_inside(&self, buffer: &[u8]) -> bool {
         let len = buffer.len() as u128;

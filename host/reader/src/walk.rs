@@ -166,9 +166,9 @@ impl InGroup {
         loop {
             let found = match &mut self.place {
                 Place::Dense(rows) => next_dense(buffer, rows, mode),
-                Place::Nodes(messages) => next_node(buffer, messages, mode),
-                Place::Ways(messages) => next_way(buffer, messages, mode),
-                Place::Relations(messages) => next_relation(buffer, messages, mode),
+                Place::Nodes(messages) => next_loose(buffer, messages, mode, node),
+                Place::Ways(messages) => next_loose(buffer, messages, mode, way),
+                Place::Relations(messages) => next_loose(buffer, messages, mode, relation),
             };
             match found {
                 Ok(Some(body)) => return Answer::Item(Element { group, body }),
@@ -197,31 +197,33 @@ fn next_dense(buffer: &[u8], from: &mut DenseRows, mode: Mode) -> Result<Option<
     Ok(row.map(Body::Dense))
 }
 
-fn next_node(buffer: &[u8], from: &mut Messages, mode: Mode) -> Result<Option<Body>, Refusal> {
-    let Some(message) = next_message(buffer, from)? else {
-        return Ok(None);
-    };
+/// The next message of its field, read by its view.
+fn next_loose(
+    buffer: &[u8],
+    from: &mut Messages,
+    mode: Mode,
+    read: fn(&[u8], Part, Mode) -> Result<Body, Refusal>,
+) -> Result<Option<Body>, Refusal> {
+    let message = next_message(buffer, from)?;
+    message.map(|part| read(buffer, part, mode)).transpose()
+}
+
+fn node(buffer: &[u8], message: Part, mode: Mode) -> Result<Body, Refusal> {
     let mut node = Node::read(buffer, message.start, message.len)?;
     node.info = info_for(mode, node.info);
-    Ok(Some(Body::Node(node)))
+    Ok(Body::Node(node))
 }
 
-fn next_way(buffer: &[u8], from: &mut Messages, mode: Mode) -> Result<Option<Body>, Refusal> {
-    let Some(message) = next_message(buffer, from)? else {
-        return Ok(None);
-    };
+fn way(buffer: &[u8], message: Part, mode: Mode) -> Result<Body, Refusal> {
     let mut way = Way::read(buffer, message.start, message.len)?;
     way.info = info_for(mode, way.info);
-    Ok(Some(Body::Way(way)))
+    Ok(Body::Way(way))
 }
 
-fn next_relation(buffer: &[u8], from: &mut Messages, mode: Mode) -> Result<Option<Body>, Refusal> {
-    let Some(message) = next_message(buffer, from)? else {
-        return Ok(None);
-    };
+fn relation(buffer: &[u8], message: Part, mode: Mode) -> Result<Body, Refusal> {
     let mut relation = Relation::read(buffer, message.start, message.len)?;
     relation.info = info_for(mode, relation.info);
-    Ok(Some(Body::Relation(relation)))
+    Ok(Body::Relation(relation))
 }
 
 fn next_message(buffer: &[u8], messages: &mut Messages) -> Result<Option<Part>, Refusal> {

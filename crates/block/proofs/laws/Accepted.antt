@@ -1,5 +1,8 @@
--- What acceptance says of counts: in an accepted block the columns of each relation and of each dense message are even. So for any two
--- accepted blocks the listings are equal exactly when the contents are.
+-- The theorem about two blocks, `accepted-equal` at the end: the listings of two accepted blocks are equal exactly when their contents are.
+-- It holds because an element of the listing is made of its content (running sums of what is stored, members of three columns in step), so equal
+-- contents list the same; and because nothing is lost in that, so equal listings come of equal contents: sums determine their differences, and
+-- members and dense nodes determine the columns that they are made of, where these have equal counts (`laws/Said`); a listing falls apart into
+-- groups and kinds in one way (`laws/Split`, `laws/Equal`). Equal counts are what acceptance gives, and that is shown here.
 use Prim.Native.Nat.{ℕ, zero, suc, _+_}
 use mathlib.Core.Path.{_≡_, refl, sym, ap, _∙_, subst}
 use mathlib.Core.Logic.{_↔_}
@@ -10,31 +13,33 @@ use lib.ListN.{length}
 use lib.Dec.{eqb}
 use borrow.Author.Tests.{eqb-true}
 use Rattle.protobuf.specs.declared.refusal.Refusal.the-variants.{Counts}
-use Rattle.protobuf.specs.Read.{choose}
+use Rattle.numbers.specs.Choose.{choose}
 use Rattle.protobuf.specs.Tag.{tagAt}
 use Rattle.protobuf.specs.Stream.{end, more, unrolled, mapped}
 use Rattle.protobuf.specs.Column.{ended, cut, Column, valueAt, columnFrom, int32s, sint64s}
-use Rattle.views.specs.declared.part.Part.{Part}
-use Rattle.views.specs.Outcome.{Outcome, kept, refused, onward, each}
-use Rattle.views.specs.View.{noPart, Slots, empty, viewFrom, view}
-use Rattle.views.specs.Schema.{relation, denseNodes, denseInfo}
-use Rattle.views.specs.Group.{denseFrom}
+use Rattle.fields.specs.declared.part.Part.{Part}
+use Rattle.fields.specs.Outcome.{Outcome, kept, refused, onward, each}
+use Rattle.fields.specs.Part.{noPart, bytesIn}
+use Rattle.fields.specs.Parts.{messagesOf}
+use Rattle.fields.specs.View.{Slots, empty, viewFrom, view}
+use Rattle.fields.specs.Schema.{relation, denseNodes, denseInfo}
+use Rattle.groups.specs.Group.{denseFrom}
 use Rattle.protobuf.specs.Message.{message, fieldAt, messageFrom}
-use Rattle.views.proofs.laws.Outcome.{each-kept, went, chosen, kept-same}
-use Rattle.block.specs.Columns.{bytesIn, messagesOf, columnIn, countOf}
+use Rattle.fields.proofs.laws.Outcome.{each-kept, went, chosen}
+use Rattle.block.specs.Columns.{columnIn, countOf}
 use Rattle.block.specs.Tags.{Pair, NodePairs, takePairs, densePairs}
-use Rattle.block.specs.Check.{passed, all, sameThree, checkCommon, elementBy, checkRows, checkNode, checkWay, checkRelation, checkDense, checkFound, checkGroup, checked}
+use Rattle.block.specs.Check.{passed, all, agreed, sameThree, checkCommon, elementBy, checkRows, checkNode, checkWay, checkRelation, checkDense, checkFound, checkGroup, checked}
 use Rattle.block.specs.Stored.{keptOr, slotsOf, valuesOf, foundBytes, denseBy}
 use Rattle.block.specs.Listing.{listing}
 use Rattle.block.specs.Content.{content}
-use Rattle.block.proofs.laws.Lists.{Each, no-more, and-also}
+use Rattle.block.proofs.laws.Lists.{Each, no-more, and-also, every}
 use Rattle.block.proofs.laws.Sums.{zigzag-values}
 use Rattle.block.proofs.laws.Said.{EvenRelation, EvenDense}
 use Rattle.block.proofs.laws.Equal.{EvenGroup, even-equal}
 
 -- ---- outcomes that were kept
 
-pub all-passed : {A : Type 0} (check : A → Outcome Unit) (xs : List A) → all check xs ≡ passed → Each (λ (a : A). check a ≡ passed) xs
+all-passed : {A : Type 0} (check : A → Outcome Unit) (xs : List A) → all check xs ≡ passed → Each (λ (a : A). check a ≡ passed) xs
 unfolding all
 all-passed check [] p = no-more
 all-passed check (x ∷ xs) p =
@@ -59,9 +64,15 @@ mapped-length f (more v rest) = omega (arith, mapped-length f rest)
 count-values : {A : Type 0} (f : ℕ → A) (c : Column ℕ) {n : ℕ} → countOf c ≡ kept n → length (valuesOf (mapped f c)) ≡ n
 count-values f c p = mapped-length f c ∙ plain-values c p
 
-both-true : (s t : Bool) → choose s t false ≡ true → (s ≡ true) × (t ≡ true)
-both-true true t p = (refl, p)
-both-true false t p = absurd (let z : _≡_ {A = ℕ} 0 1 = cc in omega arith)
+-- counts that agree are equal
+agree-both : (a b : Outcome ℕ) {n : ℕ} → agreed a b ≡ kept n → (a ≡ kept n) × (b ≡ kept n)
+unfolding agreed
+agree-both a b p =
+    let wa = went a _ p in
+    let wb = went b _ (wa .on) in
+    let test = chosen (eqb (wa .value) (wb .value)) (kept (wa .value)) Counts (wb .on) in
+    let first = wa .is ∙ test .1 in
+    (first, wb .is ∙ ap kept (sym (eqb-true (wa .value) (wb .value) (test .0))) ∙ test .1)
 
 record Counted (a b c : Column ℕ) (n : ℕ) : Type 0 where
   first : countOf a ≡ kept n
@@ -69,24 +80,10 @@ record Counted (a b c : Column ℕ) (n : ℕ) : Type 0 where
   third : countOf c ≡ kept n
 
 three : (a b c : Column ℕ) {n : ℕ} → sameThree a b c ≡ kept n → Counted a b c n
-unfolding sameThree
-three a b c {n} p =
-    let wa = went (countOf a) (λ l. onward (countOf b) λ m. onward (countOf c) λ k. choose (choose (eqb l m) (eqb m k) false) (kept l) (refused Counts)) p in
-    let l = wa .value in
-    let wb = went (countOf b) (λ m. onward (countOf c) λ k. choose (choose (eqb l m) (eqb m k) false) (kept l) (refused Counts)) (wa .on) in
-    let m = wb .value in
-    let wc = went (countOf c) (λ k. choose (choose (eqb l m) (eqb m k) false) (kept l) (refused Counts)) (wb .on) in
-    let k = wc .value in
-    let test = chosen (choose (eqb l m) (eqb m k) false) (kept l) Counts (wc .on) in
-    let tests = both-true (eqb l m) (eqb m k) (test .0) in
-    let lm : l ≡ m = eqb-true l m (tests .0) in
-    let mk : m ≡ k = eqb-true m k (tests .1) in
-    let ln : l ≡ n = kept-same (test .1) in
-    record {
-      first = wa .is ∙ ap kept ln;
-      second = wb .is ∙ ap kept (sym lm ∙ ln);
-      third = wc .is ∙ ap kept (sym mk ∙ sym lm ∙ ln);
-    }
+three a b c p =
+    let first = agree-both (countOf a) (agreed (countOf b) (countOf c)) p in
+    let others = agree-both (countOf b) (countOf c) (first .1) in
+    record { first = first .0; second = others .0; third = others .1 }
 
 pairs-length : (n : ℕ) (c : Column ℕ) {found : List (List Pair)} → densePairs n c ≡ kept found → length found ≡ n
 unfolding densePairs
@@ -114,23 +111,9 @@ even-relation s p =
 
 -- ---- an accepted dense message
 
--- what the check has read of one
-pub record DenseRead (s : List ℕ) : Type 0 where
-  pub slots : Slots
-  pub seen : view denseNodes s ≡ kept slots
-  pub nodes : ℕ
-  pub ids : countOf (columnIn s slots 1) ≡ kept nodes
-  pub lats : countOf (columnIn s slots 8) ≡ kept nodes
-  pub lons : countOf (columnIn s slots 9) ≡ kept nodes
-  pub tags : List (List Pair)
-  pub pairs : densePairs nodes (columnIn s slots 10) ≡ kept tags
-  -- as the definitions of what is stored name them
-  pub stored-slots : slots ≡ slotsOf denseNodes s
-  pub stored-tags : keptOr [] (densePairs (length (valuesOf (columnIn s slots 1))) (columnIn s slots 10)) ≡ tags
-
-pub dense-read : (s : List ℕ) → checkDense s ≡ passed → DenseRead s
-unfolding checkDense
-dense-read s p =
+even-dense : (s : List ℕ) → checkDense s ≡ passed → EvenDense (denseBy s (slotsOf denseNodes s))
+unfolding checkDense denseBy
+even-dense s p =
     let w = went (view denseNodes s) _ p in
     let slots = w .value in
     let wi = went (view denseInfo (bytesIn s (slots 5 .part))) _ (w .on) in
@@ -138,30 +121,13 @@ dense-read s p =
     let wc = went (sameThree (columnIn s slots 1) (columnIn s slots 8) (columnIn s slots 9)) _ (wr .is) in
     let wp = went (densePairs (wc .value) (columnIn s slots 10)) _ (wc .on) in
     let c = three (columnIn s slots 1) (columnIn s slots 8) (columnIn s slots 9) (wc .is) in
-    record {
-      slots = slots;
-      seen = w .is;
-      nodes = wc .value;
-      ids = c .first;
-      lats = c .second;
-      lons = c .third;
-      tags = wp .value;
-      pairs = wp .is;
-      stored-slots = ap (keptOr empty) (sym (w .is));
-      stored-tags = ap (keptOr []) (ap (λ (k : ℕ). densePairs k (columnIn s slots 10)) (plain-values (columnIn s slots 1) (c .first)) ∙ wp .is);
-    }
-
-even-dense : (s : List ℕ) → checkDense s ≡ passed → EvenDense (denseBy s (slotsOf denseNodes s))
-unfolding denseBy
-even-dense s p =
-    let d = dense-read s p in
-    let slots = d .slots in
-    let ids = count-values _ (columnIn s slots 1) (d .ids) in
-    subst (λ (k : Slots). EvenDense (denseBy s k)) (d .stored-slots)
+    let ids = count-values _ (columnIn s slots 1) (c .first) in
+    let tags = ap (keptOr []) (ap (λ (k : ℕ). densePairs k (columnIn s slots 10)) (plain-values (columnIn s slots 1) (c .first)) ∙ wp .is) in
+    subst (λ (k : Slots). EvenDense (denseBy s k)) (ap (keptOr empty) (sym (w .is)))
     (record {
-      lats = ids ∙ sym (count-values _ (columnIn s slots 8) (d .lats));
-      lons = ids ∙ sym (count-values _ (columnIn s slots 9) (d .lons));
-      tags = ids ∙ sym (ap length (d .stored-tags) ∙ pairs-length (d .nodes) (columnIn s slots 10) (d .pairs));
+      lats = ids ∙ sym (count-values _ (columnIn s slots 8) (c .second));
+      lons = ids ∙ sym (count-values _ (columnIn s slots 9) (c .third));
+      tags = ids ∙ sym (ap length tags ∙ pairs-length (wc .value) (columnIn s slots 10) (wp .is));
       ids-held = zigzag-values 64 (columnIn s slots 1);
       lats-held = zigzag-values 64 (columnIn s slots 8);
       lons-held = zigzag-values 64 (columnIn s slots 9);
@@ -169,7 +135,7 @@ even-dense s p =
 
 -- no message at all is an accepted one without nodes
 nothing-dense : checkDense [] ≡ passed
-unfolding tagAt unrolled fieldAt messageFrom valueAt columnFrom onward view viewFrom columnIn countOf densePairs all sameThree checkDense
+unfolding tagAt unrolled fieldAt messageFrom valueAt columnFrom onward view viewFrom columnIn countOf densePairs all agreed checkDense
 nothing-dense = refl
 
 pub found-passed : (group : List ℕ) (found : Part) → checkFound group found ≡ passed → checkDense (foundBytes group found) ≡ passed
@@ -193,20 +159,12 @@ even-group s p =
     let same : found ≡ keptOr noPart (denseFrom noPart (message s)) = ap (keptOr noPart) (sym (w .is)) in
     record {
       dense = subst (λ (f : Part). EvenDense (denseBy (foundBytes s f) (slotsOf denseNodes (foundBytes s f)))) same (even-dense (foundBytes s found) (found-passed s found (wd .is)));
-      relations = relations-even (messagesOf 4 s) (all-passed checkRelation (messagesOf 4 s) (ww .on));
+      relations = every even-relation (messagesOf 4 s) (all-passed checkRelation (messagesOf 4 s) (ww .on));
     }
-  where
-    relations-even : (ms : List (List ℕ)) → Each (λ (m : List ℕ). checkRelation m ≡ passed) ms → Each EvenRelation ms
-    relations-even [] h = no-more
-    relations-even (m ∷ ms) (and-also h hs) = and-also (even-relation m h) (relations-even ms hs)
-
-even-groups : (gs : List (List ℕ)) → Each (λ (g : List ℕ). checkGroup g ≡ passed) gs → Each EvenGroup gs
-even-groups [] h = no-more
-even-groups (g ∷ gs) (and-also h hs) = and-also (even-group g h) (even-groups gs hs)
 
 even-block : (block : List ℕ) → checked block ≡ passed → Each EvenGroup (messagesOf 2 block)
 unfolding checked
-even-block block p = even-groups (messagesOf 2 block) (all-passed checkGroup (messagesOf 2 block) p)
+even-block block p = every even-group (messagesOf 2 block) (all-passed checkGroup (messagesOf 2 block) p)
 
 pub accepted-equal : (a b : List ℕ) → checked a ≡ passed → checked b ≡ passed → (listing a ≡ listing b) ↔ (content a ≡ content b)
 accepted-equal a b p q = even-equal a b (even-block a p) (even-block b q)

@@ -6,7 +6,7 @@ use mathlib.Core.List.{List, [], _∷_, _++_, map, append-assoc}
 use native.Mathlib.Omega.{arith}
 use lib.ListN.{length}
 use lib.IntN.{ℤ}
-use Rattle.block.specs.Columns.{messagesOf}
+use Rattle.fields.specs.Parts.{messagesOf}
 use Rattle.block.specs.Tags.{Pair}
 use Rattle.block.specs.Strings.{Text}
 use Rattle.block.specs.Stored.{stringsOf, Dense, denseOf}

@@ -9,6 +9,10 @@ pub data Each {A : Type 0} (P : A → Type 0) : List A → Type 0 where
   no-more : Each P []
   and-also : {a : A} {rest : List A} → P a → Each P rest → Each P (a ∷ rest)
 
+pub every : {A : Type 0} {P Q : A → Type 0} → ((a : A) → P a → Q a) → (xs : List A) → Each P xs → Each Q xs
+every f [] h = no-more
+every f (x ∷ xs) (and-also h hs) = and-also (f x h) (every f xs hs)
+
 unfoldable pub headOr : {A : Type 0} → A → List A → A
 headOr other [] = other
 headOr other (a ∷ rest) = a

@@ -8,8 +8,8 @@ use native.Mathlib.Omega.{arith}
 use lib.ListN.{length}
 use lib.IntN.{ℤ, pos, negsuc}
 use Rattle.protobuf.specs.Column.{int32s, sint64s, sums}
-use Rattle.protobuf.proofs.laws.Signed.{InRange}
-use Rattle.views.specs.Schema.{way, relation}
+use Rattle.numbers.proofs.laws.Signed.{InRange}
+use Rattle.fields.specs.Schema.{way, relation}
 use Rattle.block.specs.Columns.{columnIn}
 use Rattle.block.specs.Tags.{Pair}
 use Rattle.block.specs.Strings.{Text, Tag, shown, roleText}

@@ -6,9 +6,9 @@ use mathlib.Core.List.{List, [], _∷_, _++_}
 use native.Mathlib.Omega.{arith}
 use lib.Dec.{eqb}
 use borrow.Author.Tests.{eq-eqb, ne-eqb}
-use Rattle.protobuf.specs.Read.{choose}
+use Rattle.numbers.specs.Choose.{choose}
 use Rattle.block.specs.Listing.{Kind, denseNode, looseNode, aWay, aRelation, Element}
-use Rattle.block.proofs.laws.Lists.{Each, no-more, and-also}
+use Rattle.block.proofs.laws.Lists.{Each, and-also, every}
 
 abbrev kindNumber : Kind → ℕ
 kindNumber denseNode = 0
@@ -59,12 +59,10 @@ module _ (r : ℕ) where
 
 -- what has a rank has it behind every smaller one
 pub all-behind : (q r : ℕ) → q < r → (es : List Element) → Of r es → Behind q es
-all-behind q r h [] o = no-more
-all-behind q r h (e ∷ es) (and-also k o) = and-also {a = e} (omega arith) (all-behind q r h es o)
+all-behind q r h = every λ e k. omega arith
 
 pub still-behind : (q r : ℕ) → q ≤ r → (es : List Element) → Behind r es → Behind q es
-still-behind q r h [] o = no-more
-still-behind q r h (e ∷ es) (and-also k o) = and-also {a = e} (omega arith) (still-behind q r h es o)
+still-behind q r h = every λ e k. omega arith
 
 pub both-behind : (q : ℕ) (xs ys : List Element) → Behind q xs → Behind q ys → Behind q (xs ++ ys)
 both-behind q [] ys hx hy = hy

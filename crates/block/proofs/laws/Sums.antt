@@ -6,9 +6,9 @@ use native.Mathlib.Omega.{arith}
 use lib.ListN.{length}
 use lib.IntN.{ℤ}
 use Rattle.protobuf.specs.Stream.{end, more, mapped}
-use Rattle.protobuf.specs.Signed.{wrappingAdd, zigzag}
+use Rattle.numbers.specs.Signed.{wrappingAdd, zigzag}
 use Rattle.protobuf.specs.Column.{Column, sumsFrom}
-use Rattle.protobuf.proofs.laws.Signed.{InRange, sum-determines-difference, zigzag-in-range}
+use Rattle.numbers.proofs.laws.Signed.{InRange, sum-determines-difference, zigzag-in-range}
 use Rattle.block.specs.Stored.{valuesOf}
 use Rattle.block.proofs.laws.Lists.{Each, no-more, and-also, headOr, tailOr}
 

@@ -1,20 +1,20 @@
 -- The laws of a column that readers use: the values from p are the value at p and the values from the next place; what one step of a
 -- reader finds.
-use Prim.Native.Nat.{ℕ, suc, _+_, _≤_, _<_}
+use Prim.Native.Nat.{ℕ, _+_, _≤_, _<_}
 use mathlib.Core.Path.{_≡_, refl, sym, ap, _∙_}
 use mathlib.Core.List.{List}
 use mathlib.Core.Bool.{Bool, true, false}
 use native.Mathlib.Omega.{arith}
 use lib.ListN.{length, getD, take}
 use lib.Seq.{getD-take, length-take-le}
-use lib.Dec.{leb, eqb}
+use lib.Dec.{eqb}
 use borrow.Author.Tests.{le-leb, lt-leb, eq-eqb, ne-eqb}
-use Rattle.protobuf.specs.declared.refusal.Refusal.{Refusal}
 use Rattle.protobuf.specs.declared.refusal.Refusal.the-variants.{Outside}
-use Rattle.protobuf.specs.Read.{Read, taken, refused, choose}
+use Rattle.protobuf.specs.Read.{Read, taken, refused}
+use Rattle.numbers.specs.Choose.{choose}
 use Rattle.protobuf.specs.Varint.{varint}
-use Rattle.protobuf.specs.Stream.{Stream, end, more, Item, last, item, follow, unrolled}
-use Rattle.protobuf.specs.Column.{ColumnEnd, ended, cut, Column, orCut, valueAt, columnFrom, stepAt}
+use Rattle.protobuf.specs.Stream.{last, item, follow}
+use Rattle.protobuf.specs.Column.{ended, cut, orCut, valueAt, columnFrom, stepAt}
 use Rattle.protobuf.proofs.laws.Read.{reached}
 use Rattle.protobuf.proofs.laws.Varint.{one-byte, varint-reach}
 use Rattle.protobuf.proofs.laws.Stream.{Forward, unroll}

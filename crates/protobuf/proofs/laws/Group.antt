@@ -1,19 +1,18 @@
 -- Laws of skipped groups: they end within the bytes; the fields of a group are its first field and the fields from there on, however many
 -- may still come; and the groups that are open at a time are the same as a stack of their numbers, which is what a loop remembers.
 use Prim.Native.Nat.{ℕ, zero, suc, _+_, _-_, _≤_, _<_}
-use mathlib.Core.Path.{_≡_, refl, sym, ap, _∙_, subst}
-use mathlib.Core.List.{List, [], _∷_}
-use mathlib.Core.Bool.{Bool}
+use mathlib.Core.Path.{_≡_, refl, sym, ap, _∙_}
+use mathlib.Core.List.{List}
 use native.Mathlib.Omega.{arith}
-use native.Mathlib.Nat.{le-refl}
 use lib.ListN.{length, getD, set, length-set}
 use lib.Seq.{getD-set-same, getD-set-other}
 use lib.Dec.{leb, eqb}
 use borrow.Author.Tests.{le-leb, lt-leb, leb-true, eq-eqb, ne-eqb}
 use Rattle.protobuf.specs.declared.refusal.Refusal.{Refusal}
 use Rattle.protobuf.specs.declared.refusal.Refusal.the-variants.{WireType as BadWireType, PastEnd, GroupDepth, Outside}
-use Rattle.protobuf.specs.Read.{Read, taken, refused, andThen, choose}
-use Rattle.protobuf.specs.Tag.{Tag, tagBy, tag, TagAt, done, tagged, untagged, tagAt, WireType, wireType, VARINT, I64, LEN, SGROUP, EGROUP, I32, reserved}
+use Rattle.protobuf.specs.Read.{Read, taken, refused, andThen}
+use Rattle.numbers.specs.Choose.{choose}
+use Rattle.protobuf.specs.Tag.{Tag, tagBy, tag, done, tagged, untagged, tagAt, WireType, wireType, VARINT, I64, LEN, SGROUP, EGROUP, I32, reserved}
 use Rattle.protobuf.specs.Payload.{Payload, payloadOf, valueBy, closes, fieldIn, fieldsOf, groupBy, payload}
 use Rattle.protobuf.proofs.laws.Read.{andThen-same, andThen-assoc, andThen-unit, goes-on, handed-up, Reach, to, nowhere, reach-andThen, reach-choose, reach-down, reached}
 use Rattle.protobuf.proofs.laws.Tag.{tag-reach, done-at-end, tagged-tag, untagged-tag}
@@ -194,103 +193,108 @@ module _ {s : List ℕ} {f p : ℕ} {numbers : List ℕ} {top i : ℕ} (o : Open
       let less : i < length s = omega (arith, h .0) in
       innermost ∙ handed-up _ (simp (lt-leb _ _ less) (handed-up _ (h .1)))
 
-  module _ {t : Tag} {q : ℕ} (e : tagAt s i ≡ tagged t q) where
-    pub further : (i < q) × (q ≤ length s)
-    further = reached (tag-reach s i) (tagged-tag s i e .1)
+-- a tag that was found in the innermost group
+pub record Found (s : List ℕ) (f p : ℕ) (numbers : List ℕ) (top i : ℕ) (t : Tag) (q : ℕ) : Type 0 where
+  pub groups : Open s f p numbers top i
+  pub tag : tagAt s i ≡ tagged t q
 
-    -- less is left behind the tag
-    pub falls : length s - q < length s - i
-    falls = omega (arith, further)
+module _ {s : List ℕ} {f p : ℕ} {numbers : List ℕ} {top i : ℕ} {t : Tag} {q : ℕ} (x : Found s f p numbers top i t q) where
+  pub further : (i < q) × (q ≤ length s)
+  further = reached (tag-reach s i) (tagged-tag s i (x .tag) .1)
 
-    -- what follows the tag, in the innermost group and then in those around it
-    after : groupBy 16 s f p ≡ andThen (closes (wireType (t .wire)) (choose (eqb (t .field) (getD numbers top 0)) (taken tt q) (refused BadWireType)) (andThen (valueBy (groupBy (15 - top) s) s (wireType (t .wire)) (t .field) q) λ v r. groupBy (suc (15 - top)) s (getD numbers top 0) r)) (λ u r. unwind s numbers top r)
-    unfolding fieldIn
-    after =
-        let h = tagged-tag s i e in
-        let less : i < length s = omega (arith, h .0) in
-        innermost ∙ ap (λ (r : Read Unit). andThen r λ u r. unwind s numbers top r) (simp (lt-leb _ _ less) (goes-on _ (h .1)))
+  -- less is left behind the tag
+  pub falls : length s - q < length s - i
+  falls = omega (arith, further)
 
-    own-end : t .wire ≡ 4 → getD numbers top 0 ≡ t .field → groupBy 16 s f p ≡ unwind s numbers top q
+  -- what follows the tag, in the innermost group and then in those around it
+  after : groupBy 16 s f p ≡ andThen (closes (wireType (t .wire)) (choose (eqb (t .field) (getD numbers top 0)) (taken tt q) (refused BadWireType)) (andThen (valueBy (groupBy (15 - top) s) s (wireType (t .wire)) (t .field) q) λ v r. groupBy (suc (15 - top)) s (getD numbers top 0) r)) (λ u r. unwind s numbers top r)
+  unfolding fieldIn
+  after =
+      let h = tagged-tag s i (x .tag) in
+      let less : i < length s = omega (arith, h .0) in
+      innermost (x .groups) ∙ ap (λ (r : Read Unit). andThen r λ u r. unwind s numbers top r) (simp (lt-leb _ _ less) (goes-on _ (h .1)))
+
+  own-end : t .wire ≡ 4 → getD numbers top 0 ≡ t .field → groupBy 16 s f p ≡ unwind s numbers top q
+  unfolding andThen
+  own-end w g = after ∙ rw (w, g) (simp (eq-eqb (t .field) (t .field) refl))
+
+  pub closes-last : t .wire ≡ 4 → getD numbers top 0 ≡ t .field → top ≡ 0 → groupBy 16 s f p ≡ taken tt q
+  unfolding unwind
+  closes-last w g z = own-end w g ∙ ap (λ (d : ℕ). unwind s numbers d q) z
+
+  pub closes-inner : t .wire ≡ 4 → getD numbers top 0 ≡ t .field → (top ≡ 0 → ⊥) → Open s f p numbers (top - 1) q
+  closes-inner w g z =
+      let one-less : top ≡ suc (top - 1) = omega (arith, z) in
+      record {
+        so = own-end w g ∙ ap (λ (d : ℕ). unwind s numbers d q) one-less;
+        few = omega arith;
+        whole = x .groups .whole;
+        inside = further .1;
+      }
+
+  pub other-end : t .wire ≡ 4 → (getD numbers top 0 ≡ t .field → ⊥) → groupBy 16 s f p ≡ refused BadWireType
+  unfolding andThen
+  other-end w g = after ∙ rw w (simp (ne-eqb (t .field) (getD numbers top 0) λ h. g (sym h)))
+
+  pub too-deep : t .wire ≡ 3 → top ≡ 15 → groupBy 16 s f p ≡ refused GroupDepth
+  unfolding andThen valueBy groupBy
+  too-deep w g = after ∙ rw (w, g)
+
+  -- the groups around the one that opens here, in the stack with its number on top
+  around : (next : ℕ) → andThen (groupBy (suc (15 - top)) s (getD numbers top 0) next) (λ u r. unwind s numbers top r) ≡ unwind s (set numbers (top + 1) (t .field)) (top + 1) next
+  unfolding unwind
+  around next =
+      let room : suc (15 - top) ≡ 16 - top = omega arith in
+      let up : suc top ≡ top + 1 = omega arith in
+      ap (λ (n : ℕ). andThen (groupBy n s (getD numbers top 0) next) λ u r. unwind s numbers top r) room
+      ∙ sym (unwind-set s numbers (top + 1) (t .field) (suc top) next (omega arith))
+      ∙ ap (λ (d : ℕ). unwind s (set numbers (top + 1) (t .field)) d next) up
+
+  pub opens-inner : t .wire ≡ 3 → (top ≡ 15 → ⊥) → Open s f p (set numbers (top + 1) (t .field)) (top + 1) q
+  unfolding unwind valueBy andThen
+  opens-inner w g =
+      let room : 15 - top ≡ 16 - (top + 1) = omega arith in
+      let there : top + 1 < length numbers = omega (arith, g, x .groups .whole) in
+      record {
+        so =
+            after
+            ∙ rw w (andThen-assoc (andThen (groupBy (15 - top) s (t .field) q) _) _ _ ∙ andThen-assoc (groupBy (15 - top) s (t .field) q) _ _)
+            ∙ andThen-same (groupBy (15 - top) s (t .field) q) _ (λ u next. unwind s (set numbers (top + 1) (t .field)) (top + 1) next) (λ u next e′. around next)
+            ∙ ap (λ (n : ℕ). andThen (groupBy n s (t .field) q) λ u next. unwind s (set numbers (top + 1) (t .field)) (top + 1) next) room
+            ∙ ap (λ (n : ℕ). andThen (groupBy (16 - (top + 1)) s n q) λ u next. unwind s (set numbers (top + 1) (t .field)) (top + 1) next) (sym (getD-set-same numbers (top + 1) (t .field) 0 there));
+        few = omega (arith, g);
+        whole = length-set numbers (top + 1) (t .field) ∙ x .groups .whole;
+        inside = further .1;
+      }
+
+  module _ (w : t .wire ≡ 3 → ⊥) (w′ : t .wire ≡ 4 → ⊥) where
+    passing : {x : Read Payload} → valueBy (groupBy 0 s) s (wireType (t .wire)) 0 q ≡ x → groupBy 16 s f p ≡ andThen (andThen x λ v r. groupBy (suc (15 - top)) s (getD numbers top 0) r) (λ u r. unwind s numbers top r)
+    passing ev =
+        after
+        ∙ rw (not-close (t .wire) w′)
+        (ap (λ (x : Read Payload). andThen (andThen x λ v r. groupBy (suc (15 - top)) s (getD numbers top 0) r) (λ u r. unwind s numbers top r))
+        (not-open (t .wire) w s (groupBy (15 - top) s) (groupBy 0 s) (t .field) 0 q ∙ ev))
+
+    pub value-refused : {n : Refusal} → valueBy (groupBy 0 s) s (wireType (t .wire)) 0 q ≡ refused n → groupBy 16 s f p ≡ refused n
     unfolding andThen
-    own-end w g = after ∙ rw (w, g) (simp (eq-eqb (t .field) (t .field) refl))
+    value-refused ev = passing ev
 
-    pub closes-last : t .wire ≡ 4 → getD numbers top 0 ≡ t .field → top ≡ 0 → groupBy 16 s f p ≡ taken tt q
-    unfolding unwind
-    closes-last w g z = own-end w g ∙ ap (λ (d : ℕ). unwind s numbers d q) z
+    behind : {v : Payload} {r : ℕ} → valueBy (groupBy 0 s) s (wireType (t .wire)) 0 q ≡ taken v r → (q ≤ r) × (r ≤ length s)
+    behind ev = reached (value-reach s (groupBy 0 s) (bounded 0 s) (wireType (t .wire)) 0 q (further .1)) ev
 
-    pub closes-inner : t .wire ≡ 4 → getD numbers top 0 ≡ t .field → (top ≡ 0 → ⊥) → Open s f p numbers (top - 1) q
-    closes-inner w g z =
-        let one-less : top ≡ suc (top - 1) = omega (arith, z) in
-        record {
-          so = own-end w g ∙ ap (λ (d : ℕ). unwind s numbers d q) one-less;
-          few = omega arith;
-          whole = o .whole;
-          inside = further .1;
-        }
+    pub falls-behind : {v : Payload} {r : ℕ} → valueBy (groupBy 0 s) s (wireType (t .wire)) 0 q ≡ taken v r → length s - r < length s - i
+    falls-behind ev = omega (arith, further, behind ev)
 
-    pub other-end : t .wire ≡ 4 → (getD numbers top 0 ≡ t .field → ⊥) → groupBy 16 s f p ≡ refused BadWireType
-    unfolding andThen
-    other-end w g = after ∙ rw w (simp (ne-eqb (t .field) (getD numbers top 0) λ h. g (sym h)))
-
-    pub too-deep : t .wire ≡ 3 → top ≡ 15 → groupBy 16 s f p ≡ refused GroupDepth
-    unfolding andThen valueBy groupBy
-    too-deep w g = after ∙ rw (w, g)
-
-    -- the groups around the one that opens here, in the stack with its number on top
-    around : (next : ℕ) → andThen (groupBy (suc (15 - top)) s (getD numbers top 0) next) (λ u r. unwind s numbers top r) ≡ unwind s (set numbers (top + 1) (t .field)) (top + 1) next
-    unfolding unwind
-    around next =
+    pub passes : {v : Payload} {r : ℕ} → valueBy (groupBy 0 s) s (wireType (t .wire)) 0 q ≡ taken v r → Open s f p numbers top r
+    unfolding andThen unwind
+    passes {v} {r} ev =
         let room : suc (15 - top) ≡ 16 - top = omega arith in
-        let up : suc top ≡ top + 1 = omega arith in
-        ap (λ (n : ℕ). andThen (groupBy n s (getD numbers top 0) next) λ u r. unwind s numbers top r) room
-        ∙ sym (unwind-set s numbers (top + 1) (t .field) (suc top) next (omega arith))
-        ∙ ap (λ (d : ℕ). unwind s (set numbers (top + 1) (t .field)) d next) up
-
-    pub opens-inner : t .wire ≡ 3 → (top ≡ 15 → ⊥) → Open s f p (set numbers (top + 1) (t .field)) (top + 1) q
-    unfolding unwind valueBy andThen
-    opens-inner w g =
-        let room : 15 - top ≡ 16 - (top + 1) = omega arith in
-        let there : top + 1 < length numbers = omega (arith, g, o .whole) in
         record {
-          so =
-              after
-              ∙ rw w (andThen-assoc (andThen (groupBy (15 - top) s (t .field) q) _) _ _ ∙ andThen-assoc (groupBy (15 - top) s (t .field) q) _ _)
-              ∙ andThen-same (groupBy (15 - top) s (t .field) q) _ (λ u next. unwind s (set numbers (top + 1) (t .field)) (top + 1) next) (λ u next e′. around next)
-              ∙ ap (λ (n : ℕ). andThen (groupBy n s (t .field) q) λ u next. unwind s (set numbers (top + 1) (t .field)) (top + 1) next) room
-              ∙ ap (λ (n : ℕ). andThen (groupBy (16 - (top + 1)) s n q) λ u next. unwind s (set numbers (top + 1) (t .field)) (top + 1) next) (sym (getD-set-same numbers (top + 1) (t .field) 0 there));
-          few = omega (arith, g);
-          whole = length-set numbers (top + 1) (t .field) ∙ o .whole;
-          inside = further .1;
+          so = passing ev ∙ ap (λ (n : ℕ). andThen (groupBy n s (getD numbers top 0) r) λ u r. unwind s numbers top r) room;
+          few = x .groups .few;
+          whole = x .groups .whole;
+          inside = behind ev .1;
         }
-
-    module _ (w : t .wire ≡ 3 → ⊥) (w′ : t .wire ≡ 4 → ⊥) where
-      passing : {x : Read Payload} → valueBy (groupBy 0 s) s (wireType (t .wire)) 0 q ≡ x → groupBy 16 s f p ≡ andThen (andThen x λ v r. groupBy (suc (15 - top)) s (getD numbers top 0) r) (λ u r. unwind s numbers top r)
-      passing ev =
-          after
-          ∙ rw (not-close (t .wire) w′)
-          (ap (λ (x : Read Payload). andThen (andThen x λ v r. groupBy (suc (15 - top)) s (getD numbers top 0) r) (λ u r. unwind s numbers top r))
-          (not-open (t .wire) w s (groupBy (15 - top) s) (groupBy 0 s) (t .field) 0 q ∙ ev))
-
-      pub value-refused : {n : Refusal} → valueBy (groupBy 0 s) s (wireType (t .wire)) 0 q ≡ refused n → groupBy 16 s f p ≡ refused n
-      unfolding andThen
-      value-refused ev = passing ev
-
-      behind : {v : Payload} {r : ℕ} → valueBy (groupBy 0 s) s (wireType (t .wire)) 0 q ≡ taken v r → (q ≤ r) × (r ≤ length s)
-      behind ev = reached (value-reach s (groupBy 0 s) (bounded 0 s) (wireType (t .wire)) 0 q (further .1)) ev
-
-      pub falls-behind : {v : Payload} {r : ℕ} → valueBy (groupBy 0 s) s (wireType (t .wire)) 0 q ≡ taken v r → length s - r < length s - i
-      falls-behind ev = omega (arith, further, behind ev)
-
-      pub passes : {v : Payload} {r : ℕ} → valueBy (groupBy 0 s) s (wireType (t .wire)) 0 q ≡ taken v r → Open s f p numbers top r
-      unfolding andThen unwind
-      passes {v} {r} ev =
-          let room : suc (15 - top) ≡ 16 - top = omega arith in
-          record {
-            so = passing ev ∙ ap (λ (n : ℕ). andThen (groupBy n s (getD numbers top 0) r) λ u r. unwind s numbers top r) room;
-            few = o .few;
-            whole = o .whole;
-            inside = behind ev .1;
-          }
 
 -- ---- payloads as a whole
 

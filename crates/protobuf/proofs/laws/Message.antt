@@ -5,16 +5,13 @@ use mathlib.Core.Path.{_≡_, refl, sym, ap, _∙_, subst}
 use mathlib.Core.List.{List}
 use native.Mathlib.Omega.{arith}
 use lib.ListN.{length}
-use lib.Dec.{leb}
-use borrow.Author.Tests.{le-leb, lt-leb}
 use Rattle.protobuf.specs.declared.refusal.Refusal.{Refusal}
-use Rattle.protobuf.specs.declared.refusal.Refusal.the-variants.{Outside}
-use Rattle.protobuf.specs.Read.{Read, taken, refused, andThen, choose}
-use Rattle.protobuf.specs.Tag.{Tag, tagBy, split, TagAt, done, tagged, untagged, tagAt, wireType}
-use Rattle.protobuf.specs.Payload.{Payload, valueBy, groupBy, payload}
-use Rattle.protobuf.specs.Stream.{Stream, end, more, Item, last, item, follow, unrolled}
-use Rattle.protobuf.specs.Message.{Field, MessageEnd, complete, cut, spoilt, Message, withPayload, withTag, fieldAt, messageFrom}
-use Rattle.protobuf.proofs.laws.Read.{Reach, nowhere, reach-choose, reached}
+use Rattle.protobuf.specs.Read.{Read, taken, refused}
+use Rattle.protobuf.specs.Tag.{Tag, tagBy, split, TagAt, done, tagged, untagged, tagAt}
+use Rattle.protobuf.specs.Payload.{Payload, payload}
+use Rattle.protobuf.specs.Stream.{Item, last, item, follow}
+use Rattle.protobuf.specs.Message.{Field, MessageEnd, complete, cut, spoilt, withPayload, withTag, fieldAt, messageFrom}
+use Rattle.protobuf.proofs.laws.Read.{reached}
 use Rattle.protobuf.proofs.laws.Tag.{tag-reach, tagged-tag, small-parts, split-joined}
 use Rattle.protobuf.proofs.laws.Group.{payload-reach}
 use Rattle.protobuf.proofs.laws.Within.{part-within}

@@ -1,6 +1,6 @@
 -- Laws of the payloads that stand outside groups: the ways on from a varint, and that a payload ends within the bytes.
-use Prim.Native.Nat.{ℕ, suc, _+_, _-_, _≤_, _<_}
-use mathlib.Core.Path.{_≡_, refl, ap, _∙_}
+use Prim.Native.Nat.{ℕ, _+_, _-_, _≤_, _<_}
+use mathlib.Core.Path.{_≡_, _∙_}
 use mathlib.Core.List.{List}
 use lib.ListN.{length}
 use lib.Dec.{leb}
@@ -8,9 +8,9 @@ use native.Mathlib.Omega.{arith}
 use borrow.Author.Tests.{le-leb, lt-leb, leb-true}
 use Rattle.protobuf.specs.declared.refusal.Refusal.{Refusal}
 use Rattle.protobuf.specs.declared.refusal.Refusal.the-variants.{PastEnd}
-use Rattle.protobuf.specs.Read.{Read, taken, refused, andThen}
+use Rattle.protobuf.specs.Read.{taken, refused}
 use Rattle.protobuf.specs.Varint.{varint}
-use Rattle.protobuf.specs.Payload.{Payload, payloadOf, rawVarint, fixed, counted, lengthDelimited}
+use Rattle.protobuf.specs.Payload.{payloadOf, rawVarint, fixed, counted, lengthDelimited}
 use Rattle.protobuf.proofs.laws.Read.{goes-on, handed-up, Reach, to, nowhere, reach-andThen, reach-choose, reach-down}
 use Rattle.protobuf.proofs.laws.Varint.{varint-reach}
 

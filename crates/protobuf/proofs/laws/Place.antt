@@ -1,9 +1,9 @@
 -- A digit x at the place 2^j of a number of w bits: what `x << j` keeps of it, that it fits above a number below 2^j, and that digits
 -- may be added one after the other. Over any width and any place.
-use Prim.Native.Nat.{ℕ, zero, suc, _+_, _-_, _*_, _%_, _/_, _^_, _≤_, _<_}
+use Prim.Native.Nat.{ℕ, _+_, _-_, _*_, _%_, _^_, _≤_, _<_}
 use native.Mathlib.Nat.{mul-comm, mul-assoc, add-mul, mod-lt, mod-le, add-mod-mod, mul-mod-left, sub-add-cancel}
 use native.Mathlib.Omega.{arith}
-use mathlib.Core.Path.{_≡_, refl, sym, ap, _∙_, subst}
+use mathlib.Core.Path.{_≡_, sym, ap, _∙_, subst}
 use lib.Arith.{mod-mul, digits-lt}
 use lib.Pow.{pow-pos, pow-add, shl-shr}
 

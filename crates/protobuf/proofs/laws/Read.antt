@@ -7,15 +7,13 @@ use mathlib.Core.Bool.{Bool, true, false}
 use native.Mathlib.Nat.{le-trans}
 use lib.ListN.{length}
 use Rattle.protobuf.specs.declared.refusal.Refusal.{Refusal}
-use Rattle.protobuf.specs.Read.{Read, taken, refused, andThen, choose}
+use Rattle.protobuf.specs.Read.{Read, taken, refused, andThen}
+use Rattle.numbers.specs.Choose.{choose}
+use Rattle.numbers.proofs.laws.Choose.{choose-elim}
 
 -- what an answer says, once it is known which answer it is
 pub says : {A B : Type 0} (of : A → B) {r a : A} {x : B} → of r ≡ x → r ≡ a → x ≡ of a
 says of e g = sym e ∙ ap of g
-
-pub choose-elim : {A : Type 0} (P : A → Type 0) (b : Bool) (x y : A) → (b ≡ true → P x) → (b ≡ false → P y) → P (choose b x y)
-choose-elim P true x y yes-case no-case = yes-case refl
-choose-elim P false x y yes-case no-case = no-case refl
 
 module _ {A B : Type 0} where
   pub andThen-cong : (r : Read A) (f g : A → ℕ → Read B) → ((a : A) (q : ℕ) → f a q ≡ g a q) → andThen r f ≡ andThen r g

@@ -10,7 +10,8 @@ use lib.Dec.{ltb, eqb}
 use borrow.Author.Tests.{lt-ltb, le-ltb, eq-eqb, ne-eqb, eqb-true, eqb-false, ltb-true}
 use Rattle.protobuf.specs.declared.refusal.Refusal.{Refusal}
 use Rattle.protobuf.specs.declared.refusal.Refusal.the-variants.{TagValue}
-use Rattle.protobuf.specs.Read.{Read, taken, refused, andThen, choose}
+use Rattle.protobuf.specs.Read.{Read, taken, refused, andThen}
+use Rattle.numbers.specs.Choose.{choose}
 use Rattle.protobuf.specs.Varint.{varint}
 use Rattle.protobuf.specs.Tag.{Tag, tagBy, TagAt, done, tagged, untagged, due, split, legal, tag, tagAt}
 use Rattle.protobuf.proofs.laws.Read.{goes-on, handed-up, Reach, to, nowhere, reach-andThen, reach-choose}

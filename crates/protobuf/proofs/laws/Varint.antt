@@ -1,6 +1,6 @@
 -- Laws of `varint`. `resume` is the reader's loop in the definition's terms: k bytes have given `value`, and the rest is read from i.
 use Prim.Native.Nat.{ℕ, zero, suc, _+_, _-_, _*_, _%_, _^_, _≤_, _<_}
-use mathlib.Core.Path.{_≡_, refl, sym, ap, _∙_, subst}
+use mathlib.Core.Path.{_≡_, sym, ap, _∙_}
 use mathlib.Core.List.{List}
 use native.Mathlib.Nat.{mod-eq-of-lt, mod-lt, add-mod-mod}
 use native.Mathlib.Omega.{arith}
@@ -9,13 +9,13 @@ use lib.Dec.{ltb, leb, lit<}
 use borrow.Author.Tests.{lt-ltb, le-ltb, le-leb, lt-leb, ltb-true}
 use Rattle.protobuf.specs.declared.refusal.Refusal.{Refusal}
 use Rattle.protobuf.specs.declared.varint.Varint.{Varint}
-use Rattle.protobuf.specs.declared.varint.Varint.the-variants.{Value, Refused}
+use Rattle.protobuf.specs.declared.varint.Varint.the-variants.{Refused}
 use Rattle.protobuf.specs.Answers.{varintOf, refusalOf}
 use Rattle.protobuf.specs.declared.refusal.Refusal.the-variants.{VarintCut, VarintLong, Outside}
-use Rattle.protobuf.specs.Read.{Read, taken, refused, andThen, choose}
+use Rattle.protobuf.specs.Read.{Read, taken, refused, andThen}
 use Rattle.protobuf.specs.Varint.{digits, varint}
 use Rattle.protobuf.proofs.laws.Place.{fits-above, below-next, digit-more}
-use Rattle.protobuf.proofs.laws.Read.{says, goes-on, andThen-cong, andThen-assoc, Reach, to, nowhere, reach-choose, reach-andThen, reach-down, reached}
+use Rattle.protobuf.proofs.laws.Read.{says, goes-on, andThen-cong, andThen-assoc, Reach, to, nowhere, reach-choose, reach-andThen, reach-down}
 
 -- ---- the three ways on from a byte
 

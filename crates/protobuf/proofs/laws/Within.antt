@@ -1,17 +1,16 @@
 -- A payload's raw bytes end where the payload ends. So a part lies within its message.
-use Prim.Native.Nat.{ℕ, _+_, _-_, _≤_, _<_}
+use Prim.Native.Nat.{ℕ, _+_, _-_, _≤_}
 use mathlib.Core.Path.{_≡_, refl, subst}
 use mathlib.Core.List.{List}
-use mathlib.Core.Bool.{Bool, true, false}
 use native.Mathlib.Omega.{arith}
 use lib.ListN.{length}
 use lib.Dec.{leb}
-use borrow.Author.Tests.{leb-true}
 use Rattle.protobuf.specs.declared.refusal.Refusal.{Refusal}
-use Rattle.protobuf.specs.Read.{Read, taken, refused, andThen, choose}
-use Rattle.protobuf.specs.Tag.{Tag, tagAt, tagged, WireType, wireType, VARINT, I64, LEN, SGROUP, EGROUP, I32, reserved}
+use Rattle.protobuf.specs.Read.{Read, taken, refused, andThen}
+use Rattle.protobuf.specs.Tag.{Tag, WireType, wireType, VARINT, I64, LEN, SGROUP, EGROUP, I32, reserved}
 use Rattle.protobuf.specs.Payload.{Payload, rawVarint, fixed, counted, lengthDelimited, valueBy, groupBy, payload}
-use Rattle.protobuf.proofs.laws.Read.{choose-elim, Reach, to, nowhere, reached}
+use Rattle.numbers.proofs.laws.Choose.{choose-elim}
+use Rattle.protobuf.proofs.laws.Read.{Reach, to, nowhere, reached}
 use Rattle.protobuf.proofs.laws.Varint.{varint-reach}
 use Rattle.protobuf.proofs.laws.Group.{group-reach, payload-reach}
 

@@ -7,17 +7,18 @@ use mathlib.Core.List.{List, [], _++_, append-assoc, append-nil}
 use native.Mathlib.Omega.{arith}
 use lib.ListN.{length, take, drop, length-append, length-drop}
 use lib.Seq.{length-take-le}
-use Rattle.protobuf.specs.Read.{choose}
+use Rattle.numbers.specs.Choose.{choose}
 use Rattle.protobuf.specs.Stream.{Item, last, item, follow}
 use Rattle.protobuf.specs.Message.{Field, MessageEnd, message, messageFrom, fieldAt}
 use Rattle.protobuf.specs.Answers.{fieldBy}
-use Rattle.protobuf.specs.Little.{bytes}
+use Rattle.numbers.specs.Little.{written}
+use Rattle.numbers.proofs.laws.Little.{written-none, written-length, written-before, written-twice}
 use Rattle.protobuf.proofs.laws.Message.{message-from, fields-forward, field-within}
-use Rattle.views.specs.Group.{isPart}
-use Rattle.wire.specs.Tables.{entry, entries, written, Room}
-use Rattle.views.proofs.laws.Group.{own-tag, other-tag}
-use Rattle.views.proofs.laws.Parse.{lent, lent-is}
-use Rattle.wire.proofs.laws.Tables.{written-none, written-length, written-before, written-more, tail-back}
+use Rattle.fields.specs.Parts.{isPart}
+use Rattle.wire.specs.Tables.{entry, entries, Room}
+use Rattle.fields.proofs.laws.Parts.{own-tag, other-tag}
+use Rattle.fields.proofs.laws.Part.{lent, lent-is}
+use Rattle.wire.proofs.laws.Tables.{entry-length, tail-back}
 
 -- the message
 abbrev pub part : List ℕ → ℕ → ℕ → List ℕ
@@ -105,27 +106,21 @@ module _ {s : List ℕ} {base len tag to : ℕ} {b : List ℕ} {place at : ℕ} 
           ∙ ap (λ (l : List ℕ). w .done ++ l) (coming e ∙ ap chosen (own h))
           ∙ sym (append-assoc (w .done) (entry (base + start) n) _)
 
-      eight : length (entry (base + start) n) ≡ 8
-      unfolding bytes
-      eight = refl
-
       space : to + length (w .done) + 8 ≤ length s
-      space = omega (arith, w .room .room, ap length next ∙ length-append (w .done ++ entry (base + start) n) _, length-append (w .done) (entry (base + start) n), eight)
+      space = omega (arith, w .room .room, ap length next ∙ length-append (w .done ++ entry (base + start) n) _, length-append (w .done) (entry (base + start) n), entry-length (base + start) n)
 
       pub fill-room : place + 8 ≤ length b
       fill-room = omega (arith, space, fill-length, w .there)
 
       -- ys is what the tail holds that was lent
-      pub fill-writes : (ys : List ℕ) → ys ≡ entry (base + start) n ++ drop 8 (take (length b - place) (drop place b)) → Filling s base len tag to (take place b ++ (ys ++ drop (length b - place) (drop place b))) (place + 8) q
+      pub fill-writes : (ys : List ℕ) → ys ≡ written (take (length b - place) (drop place b)) 0 (entry (base + start) n) → Filling s base len tag to (take place b ++ (ys ++ drop (length b - place) (drop place b))) (place + 8) q
       fill-writes ys g = record {
         room = w .room;
         done = w .done ++ entry (base + start) n;
         whole = next;
         is =
-            tail-back b place 8 (entry (base + start) n) ys g
-            ∙ ap (λ (k : ℕ). take k b ++ (entry (base + start) n ++ drop 8 (drop k b))) (w .there)
-            ∙ ap (λ (l : List ℕ). take (to + length (w .done)) l ++ (entry (base + start) n ++ drop 8 (drop (to + length (w .done)) l))) (w .is)
-            ∙ ap (λ (k : ℕ). take (to + length (w .done)) (written s to (w .done)) ++ (entry (base + start) n ++ drop k (drop (to + length (w .done)) (written s to (w .done))))) (sym eight)
-            ∙ written-more s to (w .done) fits (entry (base + start) n) (omega (arith, space, eight));
-        there = omega (arith, w .there, length-append (w .done) (entry (base + start) n), eight);
+            tail-back b place (entry (base + start) n) ys g
+            ∙ (λ i. written (w .is i) (w .there i) (entry (base + start) n))
+            ∙ written-twice s to (w .done) (entry (base + start) n) (omega (arith, space, entry-length (base + start) n));
+        there = omega (arith, w .there, length-append (w .done) (entry (base + start) n), entry-length (base + start) n);
       }

@@ -1,40 +1,28 @@
--- Laws of lookups through the tables: a test by a difference, which cannot wrap, is the one by a sum; and what `getAt` and `groupAt` answer under each test.
+-- Laws of lookups through the tables: a test by a difference, which cannot wrap, is the one by a sum; and what `getAt` and `groupAt` answer
+-- under each test.
 use Prim.Native.Nat.{ℕ, _+_, _-_, _*_, _/_, _≤_, _<_}
 use mathlib.Core.Path.{_≡_, refl, sym, ap, _∙_}
 use mathlib.Core.List.{List}
-use mathlib.Core.Bool.{Bool, true, false, not}
+use mathlib.Core.Bool.{Bool, true, false}
 use native.Mathlib.Omega.{arith}
 use lib.ListN.{length}
 use lib.Dec.{leb, ltb}
-use borrow.Author.Tests.{leb-true, le-leb, lt-leb, lt-ltb, le-ltb, not-true, not-false}
+use borrow.Author.Tests.{leb-true, le-leb, lt-leb, lt-ltb, le-ltb}
 use Rattle.protobuf.specs.declared.refusal.Refusal.the-variants.{Outside}
-use Rattle.protobuf.specs.Read.{choose}
-use Rattle.protobuf.proofs.laws.Test.{same-test}
-use Rattle.views.specs.declared.part.Part.{Part}
+use Rattle.numbers.specs.Choose.{choose}
+use Rattle.numbers.proofs.laws.Choose.{same-test}
+use Rattle.fields.specs.declared.part.Part.{Part}
 use Rattle.wire.specs.declared.record.WireBlock.{WireBlock}
 use Rattle.wire.specs.declared.lookup.Got.the-variants as got
 use Rattle.wire.specs.declared.lookup.GroupRange.the-variants as range
-use Rattle.wire.specs.Lookup.{entryAt, isInside, getAt, isRecordInside, groupAt}
+use Rattle.fields.specs.Part.{isInside}
+use Rattle.wire.specs.Lookup.{entryAt, getAt, isRecordInside, groupAt}
 
 -- ---- tests
 
--- what a test that was negated says of what it equals
-pub refuted : {a b : Bool} → a ≡ b → not a ≡ true → b ≡ false
-refuted {a} e g = sym e ∙ not-true a g
-
-pub confirmed : {a b : Bool} → a ≡ b → not a ≡ false → b ≡ true
-confirmed {a} e g = sym e ∙ not-false a g
-
 -- a test by a difference is the one by a sum
-module _ (n place count : ℕ) where
-  pub none-fit : n < place → false ≡ leb (place + count) n
-  none-fit h = sym (lt-leb (place + count) n (omega arith))
-
-  pub bytes-fit : place ≤ n → leb count (n - place) ≡ leb (place + count) n
-  bytes-fit h = same-test count (n - place) (place + count) n (λ e. omega arith) (λ e. omega arith)
-
-  pub entries-fit : place ≤ n → leb count ((n - place) / 8) ≡ leb (place + 8 * count) n
-  entries-fit h = same-test count ((n - place) / 8) (place + 8 * count) n (λ e. omega arith) (λ e. omega arith)
+pub entries-fit : (n place count : ℕ) → place ≤ n → leb count ((n - place) / 8) ≡ leb (place + 8 * count) n
+entries-fit n place count h = same-test count ((n - place) / 8) (place + 8 * count) n (λ e. omega arith) (λ e. omega arith)
 
 -- ---- entries
 

@@ -4,27 +4,31 @@ use Prim.Native.Nat.{ℕ, _+_, _-_, _*_, _≤_, _<_}
 use mathlib.Core.Path.{_≡_, refl, sym, ap, _∙_, subst}
 use mathlib.Core.List.{List}
 use native.Mathlib.Omega.{arith}
-use lib.ListN.{length, take, drop, length-append}
+use lib.ListN.{length, take, drop, length-append, length-drop}
 use lib.Seq.{length-take-le, take-take}
 use lib.Dec.{leb}
 use borrow.Author.Tests.{le-leb, lt-leb, leb-true, eqb-false}
 use Rattle.protobuf.specs.declared.refusal.Refusal.{Refusal}
 use Rattle.protobuf.specs.declared.refusal.Refusal.the-variants.{BlockTooLong, NoRoom, Outside}
 use Rattle.protobuf.specs.Message.{message}
-use Rattle.protobuf.proofs.laws.Part.{drop-take}
-use Rattle.views.specs.declared.part.Part.{Part}
+use Rattle.numbers.specs.Little.{written}
+use Rattle.numbers.proofs.laws.Little.{written-length, written-before, written-twice}
+use Rattle.numbers.proofs.laws.Choose.{drop-take}
+use Rattle.fields.specs.declared.part.Part.{Part}
 use Rattle.wire.specs.declared.primitive_block.BlockFields.{BlockFields}
-use Rattle.views.specs.Outcome.{Outcome, kept, refused, onward, each}
-use Rattle.views.specs.View.{Slots, view}
-use Rattle.views.specs.Schema.{primitiveBlock, stringTable}
+use Rattle.fields.specs.Outcome.{Outcome, kept, refused, onward, each}
+use Rattle.fields.specs.Parts.{partsOf}
+use Rattle.fields.specs.View.{bytes, repeated, Slots, view}
+use Rattle.fields.specs.Schema.{primitiveBlock, stringTable}
 use Rattle.wire.specs.Block.{blockFields}
-use Rattle.wire.specs.Tables.{entries, written, Room}
+use Rattle.wire.specs.Tables.{entries, Room}
+use Rattle.wire.specs.Lookup.{chosenTable}
 use Rattle.wire.specs.Scan.{limit, stringBytes, stringCount, tables, recordBy, Scanned, tablesStage, stringsStage, fieldsStage, scanned, FieldsRead, StringsRead}
-use Rattle.views.proofs.laws.Outcome.{each-kept, each-refused, went, chosen, kept-same}
-use Rattle.views.proofs.laws.Parse.{lent, lent-is}
-use Rattle.views.proofs.laws.Within.{parts-within}
-use Rattle.wire.proofs.laws.Counting.{Counts, here, there, none, past, table-length}
-use Rattle.wire.proofs.laws.Tables.{written-length, written-before, written-twice}
+use Rattle.fields.proofs.laws.Outcome.{each-kept, each-refused, went, chosen, kept-same}
+use Rattle.fields.proofs.laws.Part.{lent, lent-is}
+use Rattle.fields.proofs.laws.Within.{parts-within}
+use Rattle.wire.proofs.laws.Tables.{entries-length}
+use Rattle.wire.proofs.laws.Occurrences.{Only, here, there, none, past, counted, last-stands}
 
 -- a part of the first bytes is a part of them all
 pub part-of-front : (s : List ℕ) (block start len : ℕ) → start + len ≤ block → take len (drop start (take block s)) ≡ take len (drop start s)
@@ -33,16 +37,20 @@ part-of-front s block start len h =
     ap (take len) (subst (λ (n : ℕ). drop start (take n s) ≡ take (block - start) (drop start s)) cut (drop-take start (block - start) s))
     ∙ take-take len (block - start) (drop start s) (omega arith)
 
-string-count : Counts 1 stringTable
-string-count = here none
+string-row : Only 1 repeated stringTable
+string-row = here none
 
-group-count : Counts 2 primitiveBlock
-group-count =
+group-row : Only 2 repeated primitiveBlock
+group-row =
     there (eqb-false 1 2 refl)
     (here (past (eqb-false 17 2 refl) (past (eqb-false 18 2 refl) (past (eqb-false 19 2 refl) (past (eqb-false 20 2 refl) none)))))
 
+string-table-row : Only 1 bytes primitiveBlock
+string-table-row =
+    here (past (eqb-false 2 1 refl) (past (eqb-false 17 1 refl) (past (eqb-false 18 1 refl) (past (eqb-false 19 1 refl) (past (eqb-false 20 1 refl) none)))))
+
 module _ {s : List ℕ} {block : ℕ} {top : BlockFields} (r : FieldsRead s block top) where
-  block-length : length (take block s) ≡ block
+  pub block-length : length (take block s) ≡ block
   block-length = length-take-le block s (r .inside)
 
   pub strings-within : top .strings .start + top .strings .len ≤ block
@@ -53,8 +61,20 @@ module _ {s : List ℕ} {block : ℕ} {top : BlockFields} (r : FieldsRead s bloc
   pub string-bytes : stringBytes (take block s) top ≡ take (top .strings .len) (drop (top .strings .start) s)
   string-bytes = part-of-front s block (top .strings .start) (top .strings .len) strings-within
 
+  pub string-bytes-length : length (stringBytes (take block s) top) ≡ top .strings .len
+  string-bytes-length = length-take-le _ _ (simp length-drop (omega (arith, strings-within, block-length)))
+
+  -- the string table that was read is the block's chosen one
+  pub string-table : top .strings ≡ chosenTable (take block s)
+  unfolding chosenTable
+  string-table = ap (λ (v : BlockFields). v .strings) (r .is) ∙ last-stands 1 (take block s) (r .so) string-table-row
+
+  -- there are as many groups as the block has parts of their field
+  pub group-count : top .groups ≡ length (partsOf 2 (message (take block s)))
+  group-count = ap (λ (v : BlockFields). v .groups) (r .is) ∙ counted 2 (take block s) (r .so) group-row
+
   pub groups-length : length (entries 0 2 (message (take block s))) ≡ 8 * top .groups
-  groups-length = table-length 2 group-count 0 (take block s) (r .so) ∙ ap (λ (v : BlockFields). 8 * v .groups) (sym (r .is))
+  groups-length = entries-length 0 2 (message (take block s)) ∙ ap (λ (n : ℕ). 8 * n) (sym group-count)
 
 module _ {s : List ℕ} {block : ℕ} {top : BlockFields} {strings : ℕ} (r : StringsRead s block top strings) where
   abbrev pub stringEntries : List ℕ
@@ -63,8 +83,11 @@ module _ {s : List ℕ} {block : ℕ} {top : BlockFields} {strings : ℕ} (r : S
   abbrev pub groupEntries : List ℕ
   groupEntries = entries 0 2 (message (take block s))
 
+  pub string-count : strings ≡ length (partsOf 1 (message (stringBytes (take block s) top)))
+  string-count = r .is ∙ counted 1 (stringBytes (take block s) top) (r .so) string-row
+
   pub strings-length : length stringEntries ≡ 8 * strings
-  strings-length = table-length 1 string-count (top .strings .start) (stringBytes (take block s) top) (r .so) ∙ ap (λ (n : ℕ). 8 * n) (sym (r .is))
+  strings-length = entries-length (top .strings .start) 1 (message (stringBytes (take block s) top)) ∙ ap (λ (n : ℕ). 8 * n) (sym string-count)
 
   pub total : length (tables (take block s) top) ≡ 8 * (strings + top .groups)
   total =

@@ -1,61 +1,54 @@
--- Laws of what is written behind a block: what stays, and that one more entry is one more entry.
-use Prim.Native.Nat.{ℕ, _+_, _-_, _≤_}
-use mathlib.Core.Path.{_≡_, sym, ap, _∙_, subst}
-use mathlib.Core.List.{List, [], _++_, append-assoc, append-nil}
-use native.Mathlib.Nat.{add-zero}
+-- Laws of the tables behind a block: two numbers written one behind the other are an entry, and what a lent tail comes back with is written
+-- in the place where it stood.
+use Prim.Native.Nat.{ℕ, _+_, _-_, _*_, _^_, _%_, _≤_}
+use mathlib.Core.Path.{_≡_, refl, sym, ap, _∙_}
+use mathlib.Core.List.{List, [], _∷_, _++_, append-nil}
+use mathlib.Core.Bool.{Bool, true, false}
+use native.Mathlib.Nat.{zero-add}
 use native.Mathlib.Omega.{arith}
-use lib.ListN.{length, take, drop, length-append, length-drop, take-append-drop, drop-of-length-le}
-use lib.Seq.{take-append-le, drop-append-le, take-at, drop-at, length-take-le, drop-drop, take-take, take-all}
-use Rattle.protobuf.proofs.laws.Part.{drop-take}
-use Rattle.wire.specs.Tables.{written}
+use lib.ListN.{length, take, drop, length-append, length-drop, drop-of-length-le}
+use lib.Seq.{drop-drop, take-all}
+use Rattle.numbers.specs.Choose.{choose}
+use Rattle.numbers.specs.Little.{bytes, written, writtenAt}
+use Rattle.protobuf.specs.Stream.{end, more}
+use Rattle.protobuf.specs.Message.{Message}
+use Rattle.numbers.proofs.laws.Little.{bytes-length, bytes-mod, writes-inside, writes-length, written-twice}
+use Rattle.fields.specs.Part.{partBy}
+use Rattle.fields.specs.Parts.{isPart, partsOf}
+use Rattle.wire.specs.Tables.{entry, entries}
 
-module _ (s : List ℕ) (at : ℕ) where
-  pub written-none : at ≤ length s → written s at [] ≡ s
-  written-none h = ap (λ (k : ℕ). take at s ++ drop k s) (add-zero at) ∙ take-append-drop at s
+pub entry-length : (start len : ℕ) → length (entry start len) ≡ 8
+unfolding bytes
+entry-length start len = refl
 
-  module _ (new : List ℕ) (room : at + length new ≤ length s) where
-    size : length (take at s) ≡ at
-    size = length-take-le at s (omega arith)
+-- eight bytes for each part
+pub entries-length : (base k : ℕ) (m : Message) → length (entries base k m) ≡ 8 * length (partsOf k m)
+unfolding entries partsOf
+entries-length base k (end e) = refl
+entries-length base k (more f rest) = by (isPart k f) (entries-length base k rest)
+  where
+    by : (b : Bool) → length (entries base k rest) ≡ 8 * length (partsOf k rest) → length (choose b (entry (base + f .payload .start) (f .payload .len)) [] ++ entries base k rest) ≡ 8 * length (choose b (partBy (f .payload .start) (f .payload .len) ∷ []) [] ++ partsOf k rest)
+    by true others = length-append (entry (base + f .payload .start) (f .payload .len)) _ ∙ omega (arith, others, entry-length (base + f .payload .start) (f .payload .len))
+    by false others = others
 
-    pub written-length : length (written s at new) ≡ length s
-    written-length = simp (length-append, length-drop, size) (omega arith)
-
-    -- what stands before the place stays
-    pub written-before : (base len : ℕ) → base + len ≤ at → take len (drop base (written s at new)) ≡ take len (drop base s)
-    written-before base len h =
-        let cut : base + (at - base) ≡ at = omega arith in
-        let same : drop base (take at s) ≡ take (at - base) (drop base s) = subst (λ (n : ℕ). drop base (take n s) ≡ take (at - base) (drop base s)) cut (drop-take base (at - base) s) in
-        ap (take len) (drop-append-le base (take at s) (new ++ drop (at + length new) s) (omega (arith, size)))
-        ∙ take-append-le len (drop base (take at s)) (new ++ drop (at + length new) s) (simp (length-drop, size) (omega arith))
-        ∙ ap (take len) same
-        ∙ take-take len (at - base) (drop base s) (omega arith)
-
-    -- more, written behind
-    pub written-more : (more : List ℕ) → at + length new + length more ≤ length s → take (at + length new) (written s at new) ++ (more ++ drop (length more) (drop (at + length new) (written s at new))) ≡ written s at (new ++ more)
-    written-more more h =
-        let front : length (take at s ++ new) ≡ at + length new = simp (length-append, size) in
-        let joined : written s at new ≡ (take at s ++ new) ++ drop (at + length new) s = sym (append-assoc (take at s) new (drop (at + length new) s)) in
-        let left : take (at + length new) (written s at new) ≡ take at s ++ new =
-        ap (take (at + length new)) joined ∙ take-at (take at s ++ new) (drop (at + length new) s) (at + length new) front in
-        let right : drop (at + length new) (written s at new) ≡ drop (at + length new) s =
-        ap (drop (at + length new)) joined ∙ drop-at (take at s ++ new) (drop (at + length new) s) (at + length new) front in
-        let end : at + length new + length more ≡ at + length (new ++ more) = simp length-append (omega arith) in
-        ap (λ (l : List ℕ). l ++ (more ++ drop (length more) (drop (at + length new) (written s at new)))) left
-        ∙ ap (λ (l : List ℕ). (take at s ++ new) ++ (more ++ drop (length more) l)) right
-        ∙ ap (λ (l : List ℕ). (take at s ++ new) ++ (more ++ l)) (drop-drop (length more) (at + length new) s ∙ ap (λ (k : ℕ). drop k s) end)
-        ∙ append-assoc (take at s) new (more ++ drop (at + length (new ++ more)) s)
-        ∙ ap (λ (l : List ℕ). take at s ++ l) (sym (append-assoc new more (drop (at + length (new ++ more)) s)))
+-- two numbers, written one behind the other
+pub entry-written : (s : List ℕ) (start len : ℕ) → 8 ≤ length s → {t u : List ℕ} → t ≡ writtenAt 4 s 0 (start % 2 ^ 32) → u ≡ writtenAt 4 t 4 (len % 2 ^ 32) → u ≡ written s 0 (entry start len)
+entry-written s start len h {t} {u} first second =
+    let same : length t ≡ length s = ap length first ∙ writes-length 4 s 0 (start % 2 ^ 32) in
+    let one : t ≡ written s 0 (bytes 4 start) = first ∙ writes-inside 4 s 0 (start % 2 ^ 32) (omega arith) ∙ ap (written s 0) (bytes-mod 4 start) in
+    second
+    ∙ writes-inside 4 t 4 (len % 2 ^ 32) (omega arith)
+    ∙ ap (written t 4) (bytes-mod 4 len)
+    ∙ ap (λ (l : List ℕ). written l 4 (bytes 4 len)) one
+    ∙ ap (λ (k : ℕ). written (written s 0 (bytes 4 start)) k (bytes 4 len)) (sym (zero-add (length (bytes 4 start)) ∙ bytes-length 4 start))
+    ∙ written-twice s 0 (bytes 4 start) (bytes 4 len) (omega (arith, bytes-length 4 start, bytes-length 4 len))
 
 -- what comes back from a tail that was lent, in the place where it stood
-pub tail-back : (b : List ℕ) (place k : ℕ) (new ys : List ℕ) → ys ≡ new ++ drop k (take (length b - place) (drop place b)) → take place b ++ (ys ++ drop (length b - place) (drop place b)) ≡ take place b ++ (new ++ drop k (drop place b))
-tail-back b place k new ys e =
+pub tail-back : (b : List ℕ) (place : ℕ) (new ys : List ℕ) → ys ≡ written (take (length b - place) (drop place b)) 0 new → take place b ++ (ys ++ drop (length b - place) (drop place b)) ≡ written b place new
+tail-back b place new ys e =
     let rest : length (drop place b) ≤ length b - place = simp length-drop (omega arith) in
     ap (λ (l : List ℕ). take place b ++ (ys ++ l)) (drop-of-length-le (drop place b) rest)
     ∙ ap (λ (l : List ℕ). take place b ++ l) (append-nil ys ∙ e)
-    ∙ ap (λ (l : List ℕ). take place b ++ (new ++ drop k l)) (take-all (length b - place) (drop place b) rest)
-
--- more, written behind what was written
-pub written-twice : (s : List ℕ) (at : ℕ) (new more : List ℕ) → at + length new + length more ≤ length s → written (written s at new) (at + length new) more ≡ written s at (new ++ more)
-written-twice s at new more h =
-    ap (λ (l : List ℕ). take (at + length new) (written s at new) ++ (more ++ l)) (sym (drop-drop (length more) (at + length new) (written s at new)))
-    ∙ written-more s at new (omega arith) more h
+    ∙ ap (λ (l : List ℕ). take place b ++ (new ++ drop (0 + length new) l)) (take-all (length b - place) (drop place b) rest)
+    ∙ ap (λ (k : ℕ). take place b ++ (new ++ drop k (drop place b))) (zero-add (length new))
+    ∙ ap (λ (l : List ℕ). take place b ++ (new ++ l)) (drop-drop (length new) place b)

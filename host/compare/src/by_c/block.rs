@@ -4,31 +4,31 @@ use proved::ByRecord;
 
 use super::faults::Faults;
 use super::lent::Lent;
-use super::record::{self, RECORD};
-use super::shape::{Item, bytes as bytes_of, put};
-use super::told::{OUTSIDE, Told, told};
+use super::record::{
+    self, BLOCK, DATE_GRANULARITY, GRANULARITY, GROUP_TABLE, GROUPS, LAT_OFFSET, LON_OFFSET,
+    Numbers, STRING_TABLE, STRINGS,
+};
+use super::shape::{RANGE, bytes as bytes_of};
+use super::told::{Told, told};
 use crate::question::{Places, scan_buffer};
 use crate::text::Words;
-
-/// Start and length.
-const RANGE: [Item; 2] = [Item::Number; 2];
 
 /// The record and every byte behind the block.
 pub fn scan(bytes: &[u8], len: u64, room: u64) -> String {
     let before = scan_buffer(bytes, room);
     let mut faults = Faults::default();
     let mut tails = Vec::new();
-    let told = told(RECORD, |record| {
+    let told = told(proved::RECORD_SIZE, |record| {
         let mut buffer = Lent::bytes(&before);
         let code = proved::scan(buffer.slice(), len as usize, record);
-        let kept = if code == 0 {
+        let kept = if code == proved::OK {
             before.len().min(len as usize)
         } else {
             before.len()
         };
         let held = buffer.is_unchanged_but(kept..before.len());
         faults.unless(held, "the buffer changed where it must not");
-        if code == 0 {
+        if code == proved::OK {
             tails.push(buffer.slice()[kept..].to_vec());
         }
         code
@@ -39,8 +39,9 @@ pub fn scan(bytes: &[u8], len: u64, room: u64) -> String {
     let mut out = Words::new();
     out.put(told.code);
     if let Some(tail) = tails.first() {
-        faults.unless(told.numbers.first() == Some(&len), "another block length");
-        put_record(&told.numbers, &mut out);
+        let record = record::numbers(&told.answer);
+        faults.unless(record[BLOCK] == len, "another block length");
+        put_record(&record, &mut out);
         out.bytes(tail);
     }
     faults.put(&mut out);
@@ -48,19 +49,12 @@ pub fn scan(bytes: &[u8], len: u64, room: u64) -> String {
 }
 
 /// In the order of the other sides, which leave the block's length out.
-fn put_record(numbers: &[u64], out: &mut Words) {
-    if let &[
-        _,
-        strings,
-        string_table,
-        groups,
-        group_table,
-        ref scalars @ ..,
-    ] = numbers
-    {
-        put(&[Item::Number; 4], scalars, 0, out);
-        out.put(string_table).put(strings);
-        out.put(group_table).put(groups);
+fn put_record(record: &Numbers, out: &mut Words) {
+    for signed in [GRANULARITY, DATE_GRANULARITY, LAT_OFFSET, LON_OFFSET] {
+        out.put(record[signed] as i64);
+    }
+    for number in [STRING_TABLE, STRINGS, GROUP_TABLE, GROUPS] {
+        out.put(record[number]);
     }
 }
 
@@ -87,13 +81,13 @@ pub fn by_record(read: ByRecord, bytes: &[u8], places: Places, index: u64) -> St
 }
 
 fn is_refused(told: &Told) -> bool {
-    told.code == OUTSIDE && told.faults == Faults::default()
+    told.code == proved::OUTSIDE && told.faults == Faults::default()
 }
 
 fn with_record(read: ByRecord, buffer: &mut Lent, record: &[u8], index: usize) -> Told {
     let mut record = Lent::bytes(record);
     let mut faults = Faults::default();
-    let mut told = told(RANGE.len(), |out| {
+    let mut told = told(RANGE.size, |out| {
         let code = read(buffer.slice(), record.slice(), index, out);
         faults.unless(buffer.is_unchanged(), "the buffer changed");
         faults.unless(record.is_unchanged(), "the record changed");

@@ -1,14 +1,11 @@
 //! The check through C, of a block that was scanned through C.
 
+use super::around::BEHIND;
 use super::faults::Faults;
 use super::lent::Lent;
-use super::record::{
-    self, BLOCK, ENTRY, GROUP_TABLE, GROUPS, Numbers, RECORD, STRING_TABLE, STRINGS,
-};
-use super::shape::{NUMBER, bytes as bytes_of, numbers};
+use super::record::{self, BLOCK, ENTRY, Numbers, STRING_TABLE, STRINGS};
+use super::shape::bytes as bytes_of;
 use super::tables;
-use super::told::OUTSIDE;
-use super::views::BEHIND;
 use crate::question::scan_buffer;
 use crate::text::Words;
 
@@ -36,19 +33,18 @@ pub fn answer(bytes: &[u8]) -> String {
     out.done()
 }
 
-/// The block scanned through C in a buffer just large enough for its tables,
-/// and the record's numbers; or the scan's refusal.
+/// The block scanned through C in a buffer of the size that is always enough,
+/// which is then cut behind the tables, and the record's numbers; or the
+/// scan's refusal.
 fn scanned(bytes: &[u8]) -> Result<(Vec<u8>, Numbers), u32> {
-    // A table has no more entries than the block has bytes.
-    let mut buffer = scan_buffer(bytes, 9 * bytes.len() as u64);
-    let mut out = [0; RECORD * NUMBER];
+    let mut buffer = scan_buffer(bytes, (proved::BUFFER_TIMES * bytes.len()) as u64);
+    let mut out = [0; proved::RECORD_SIZE];
     let code = proved::scan(&mut buffer, bytes.len(), &mut out);
-    if code != 0 {
+    if code != proved::OK {
         return Err(code);
     }
-    let mut record = [0; RECORD];
-    record.copy_from_slice(&numbers(&out));
-    buffer.truncate((record[GROUP_TABLE] + ENTRY * record[GROUPS]) as usize);
+    let record = record::numbers(&out);
+    buffer.truncate(record::read(&record).end() as usize);
     Ok((buffer, record))
 }
 
@@ -106,11 +102,11 @@ impl Checked {
     /// What is no record, and what passes the buffer.
     fn refuses(&mut self, numbers: &Numbers, len: u64) {
         for record in record::none(numbers) {
-            let refused = self.code(&record) == OUTSIDE;
+            let refused = self.code(&record) == proved::OUTSIDE;
             self.unless(refused, "what is no record is not refused with 14");
         }
         for outside in record::outside(numbers, len) {
-            let refused = self.code(&bytes_of(&outside)) == OUTSIDE;
+            let refused = self.code(&bytes_of(&outside)) == proved::OUTSIDE;
             self.unless(refused, "a record outside is not refused with 14");
         }
     }

@@ -4,8 +4,10 @@
 //! Where one of them goes wrong, or a lent byte changes that must not, the
 //! answer says so at its end, and then it equals no answer of the reader.
 
+mod around;
 mod block;
 mod check;
+mod constants;
 mod faults;
 mod lent;
 mod messages;
@@ -17,8 +19,8 @@ mod views;
 
 use crate::question::{Ask, Places};
 
-/// Whether the proved library is linked.
-pub const LINKED: bool = true;
+/// The library that is linked.
+pub const ARCHIVE: Option<&str> = Some(proved::ARCHIVE);
 
 /// The answer in words; none where C has no such question: the leaf and the
 /// walks.

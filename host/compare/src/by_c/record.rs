@@ -1,40 +1,44 @@
 //! The nine numbers of a record, in the order of their bytes; slices that hold
 //! none, and records that pass their buffer.
 
-use super::shape::bytes;
+use super::shape::{NUMBER, bytes};
 use crate::question::Places;
 
-/// How many numbers a record has: block length; count and place of the
-/// strings, count and place of the groups; both granularities and offsets.
-pub const RECORD: usize = 9;
+/// How many numbers a record has.
+const RECORD: usize = proved::RECORD_SIZE / NUMBER;
 pub type Numbers = [u64; RECORD];
 
-pub const BLOCK: usize = 0;
-pub const STRINGS: usize = 1;
-pub const STRING_TABLE: usize = 2;
-pub const GROUPS: usize = 3;
-pub const GROUP_TABLE: usize = 4;
-const GRANULARITY: usize = 5;
-const DATE_GRANULARITY: usize = 6;
-const LAT_OFFSET: usize = 7;
-const LON_OFFSET: usize = 8;
+/// Which of them is which.
+pub const BLOCK: usize = proved::RECORD_BLOCK / NUMBER;
+pub const STRINGS: usize = proved::RECORD_STRINGS / NUMBER;
+pub const STRING_TABLE: usize = proved::RECORD_STRINGTABLE / NUMBER;
+pub const GROUPS: usize = proved::RECORD_GROUPS / NUMBER;
+pub const GROUP_TABLE: usize = proved::RECORD_GROUPTABLE / NUMBER;
+pub const GRANULARITY: usize = proved::RECORD_GRANULARITY / NUMBER;
+pub const DATE_GRANULARITY: usize = proved::RECORD_DATEGRANULARITY / NUMBER;
+pub const LAT_OFFSET: usize = proved::RECORD_LATOFFSET / NUMBER;
+pub const LON_OFFSET: usize = proved::RECORD_LONOFFSET / NUMBER;
 
 /// The bytes of a table entry.
-pub const ENTRY: u64 = 8;
+pub const ENTRY: u64 = proved::ENTRY_SIZE as u64;
 
 /// The record of some places; its scalars are the defaults of a block.
 pub fn at(places: Places) -> Numbers {
-    [
-        places.block_len,
-        places.string_count,
-        places.string_table,
-        places.group_count,
-        places.group_table,
-        100,
-        1000,
-        0,
-        0,
-    ]
+    let set = [
+        (BLOCK, places.block_len),
+        (STRINGS, places.string_count),
+        (STRING_TABLE, places.string_table),
+        (GROUPS, places.group_count),
+        (GROUP_TABLE, places.group_table),
+        (GRANULARITY, 100),
+        (DATE_GRANULARITY, 1000),
+    ];
+    with(&[0; RECORD], &set)
+}
+
+/// The numbers in a record's bytes.
+pub fn numbers(record: &[u8]) -> Numbers {
+    std::array::from_fn(|at| proved::number(record, at * NUMBER))
 }
 
 /// The record with some numbers changed.

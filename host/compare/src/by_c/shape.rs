@@ -1,66 +1,95 @@
-//! What the numbers of an answer are, in their order, and how they read in the
-//! words of the other sides. Every number is 8 little-endian bytes, a signed
-//! one in two's complement.
+//! What an answer holds and where, and how it reads in the words of the other
+//! sides. Every number is 8 little-endian bytes, a signed one in two's
+//! complement; the places are the header's.
+
+use proved::{PART_LENGTH, PART_PRESENT, PART_START};
 
 use crate::text::Words;
 
 /// The bytes of a number.
-pub const NUMBER: usize = 8;
+pub const NUMBER: usize = proved::NUMBER_SIZE;
 
 #[derive(Clone, Copy)]
 pub enum Item {
-    Number,
-    /// Present or not, and the value: 0 where it is not.
-    Optional,
-    /// Present or not, start and length.
-    Part,
+    /// At its place.
+    Number(usize),
+    /// Whether it is present, and the value, each at its place: 0 where it is
+    /// not.
+    Optional(usize, usize),
+    /// Whether it is present, start and length, from a place on.
+    Part(usize),
 }
 
-/// How many numbers an answer of this shape has.
-pub fn count(shape: &[Item]) -> usize {
-    shape.iter().map(|&item| width(item)).sum()
+/// An answer's size, and its items in the order of the other sides.
+pub struct Shape {
+    pub size: usize,
+    items: &'static [Item],
 }
 
-fn width(item: Item) -> usize {
-    match item {
-        Item::Number => 1,
-        Item::Optional => 2,
-        Item::Part => 3,
+impl Shape {
+    /// The items must fill the answer, so that every number of it is told.
+    pub const fn new(size: usize, items: &'static [Item]) -> Shape {
+        let (mut filled, mut at) = (0, 0);
+        while at < items.len() {
+            filled += match items[at] {
+                Item::Number(_) => NUMBER,
+                Item::Optional(..) => 2 * NUMBER,
+                Item::Part(_) => proved::PART_SIZE,
+            };
+            at += 1;
+        }
+        assert!(filled == size);
+        Shape { size, items }
     }
+
+    /// The answer in words; a present part is told from `base` on.
+    pub fn put(&self, answer: &[u8], base: u64, out: &mut Words) {
+        for &item in self.items {
+            put_item(item, answer, base, out);
+        }
+    }
+}
+
+/// Start and length of a range.
+pub const RANGE: Shape = Shape::new(
+    proved::RANGE_SIZE,
+    &[
+        Item::Number(proved::RANGE_START),
+        Item::Number(proved::RANGE_LENGTH),
+    ],
+);
+
+/// Flags other than 0 and 1 and an absent value other than 0 are no answer of
+/// the reader: they are told as they are.
+fn put_item(item: Item, answer: &[u8], base: u64, out: &mut Words) {
+    match item {
+        Item::Number(place) => out.put(proved::number(answer, place) as i64),
+        Item::Optional(present, value) => {
+            match [present, value].map(|place| proved::number(answer, place)) {
+                [0, 0] => out.put('~'),
+                [1, value] => out.put(value as i64),
+                other => out.put(format!("{other:?}")),
+            }
+        }
+        Item::Part(place) => match part(&answer[place..]) {
+            [1, start, len] => out.put(1).put(start.wrapping_sub(base)).put(len),
+            [present, start, len] => out.put(present).put(start).put(len),
+        },
+    };
+}
+
+/// A part's numbers: present, start, length.
+pub fn part(bytes: &[u8]) -> [u64; 3] {
+    [PART_PRESENT, PART_START, PART_LENGTH].map(|place| proved::number(bytes, place))
 }
 
 /// The numbers in some bytes.
 pub fn numbers(bytes: &[u8]) -> Vec<u64> {
-    let number = |bytes: &[u8]| bytes.iter().rev().fold(0, |n, &b| n << 8 | u64::from(b));
-    bytes.chunks_exact(NUMBER).map(number).collect()
+    let places = (0..bytes.len() / NUMBER).map(|at| at * NUMBER);
+    places.map(|place| proved::number(bytes, place)).collect()
 }
 
 /// The bytes of some numbers.
 pub fn bytes(numbers: &[u64]) -> Vec<u8> {
     numbers.iter().flat_map(|n| n.to_le_bytes()).collect()
-}
-
-/// The numbers in words; a present part is told from `base` on.
-pub fn put(shape: &[Item], mut numbers: &[u64], base: u64, out: &mut Words) {
-    for &item in shape {
-        let Some((one, rest)) = numbers.split_at_checked(width(item)) else {
-            out.put("a number is missing");
-            return;
-        };
-        put_item(one, base, out);
-        numbers = rest;
-    }
-}
-
-/// Flags other than 0 and 1 and an absent value other than 0 are no answer of
-/// the reader: they are told as they are.
-fn put_item(numbers: &[u64], base: u64, out: &mut Words) {
-    match *numbers {
-        [value] => out.put(value as i64),
-        [0, 0] => out.put('~'),
-        [1, value] => out.put(value as i64),
-        [1, start, len] => out.put(1).put(start.wrapping_sub(base)).put(len),
-        [present, start, len] => out.put(present).put(start).put(len),
-        _ => out.put(format!("{numbers:?}")),
-    };
 }

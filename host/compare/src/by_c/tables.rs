@@ -6,7 +6,6 @@
 use super::check::Checked;
 use super::record::{self, BLOCK, ENTRY, GROUP_TABLE, GROUPS, Numbers};
 use super::shape::bytes as bytes_of;
-use super::told::OUTSIDE;
 use crate::text::Words;
 
 /// Start and length of a group.
@@ -73,7 +72,7 @@ impl Tables {
 
     /// A table with a range that passes the buffer.
     fn refuses(&mut self, ranges: &[Range]) {
-        let refused = self.ask(ranges).1 == OUTSIDE;
+        let refused = self.ask(ranges).1 == proved::OUTSIDE;
         let what = "a table with a range outside is not refused with 14";
         self.lent.unless(refused, what);
     }
@@ -153,6 +152,7 @@ fn ranges_in(table: &[u8]) -> Vec<Range> {
     let number = |bytes: &[u8]| bytes.iter().rev().fold(0, |n, &b| n << 8 | u32::from(b));
     table
         .chunks_exact(ENTRY as usize)
-        .map(|entry| (number(&entry[..4]), number(&entry[4..])))
+        .map(|entry| entry.split_at(proved::ENTRY_LENGTH))
+        .map(|(start, len)| (number(start), number(len)))
         .collect()
 }

@@ -2,73 +2,71 @@
 
 use super::faults::Faults;
 use super::lent::Lent;
-use super::shape::{self, Item, NUMBER};
+use super::shape::Shape;
 use crate::text::Words;
 
-/// Codes besides the refusals: there is no such string, and a state has ended.
-const NONE: u32 = 100;
-pub const ENDED: u32 = 101;
-/// Outside, also for a slice that is too short.
-pub const OUTSIDE: u32 = 14;
 /// Bytes of a longer slice behind the answer: room for one number more.
 const SPARE: usize = 11;
 
 #[derive(Debug, PartialEq, Eq)]
 pub struct Told {
     pub code: u32,
-    /// The answer where the code is 0, else none.
-    pub numbers: Vec<u64>,
+    /// The answer's bytes where the code is 0, else none.
+    pub answer: Vec<u8>,
     pub faults: Faults,
 }
 
-/// Calls with a slice that is longer than the answer of `count` numbers, with
-/// one that just holds it, and with one that is a byte too short.
-pub fn told(count: usize, mut call: impl FnMut(&mut [u8]) -> u32) -> Told {
-    let full = count * NUMBER;
+/// Calls with a slice that is longer than the answer of `size` bytes, with one
+/// that just holds it, and with one that is a byte too short.
+pub fn told(size: usize, mut call: impl FnMut(&mut [u8]) -> u32) -> Told {
     let mut faults = Faults::default();
-    let mut one = |room| one_call(room, full, &mut call, &mut faults);
-    let longer = one(full + SPARE);
-    let fitting = one(full);
-    let short = one(full - 1);
+    let mut one = |room| one_call(room, size, &mut call, &mut faults);
+    let longer = one(size + SPARE);
+    let fitting = one(size);
+    let short = one(size - 1);
     faults.unless(
         fitting == longer,
         "a slice that just fits is answered otherwise",
     );
     faults.unless(
-        short.0 == OUTSIDE,
+        short.0 == proved::OUTSIDE,
         "a slice too short is not refused with 14",
     );
-    let (code, numbers) = longer;
+    let (code, answer) = longer;
     Told {
         code,
-        numbers,
+        answer,
         faults,
     }
 }
 
-/// Code and numbers. Behind the numbers no byte may change, and none at all
+/// Code and answer. Behind the answer no byte may change, and none at all
 /// where the code is not 0.
 fn one_call(
     room: usize,
-    full: usize,
+    size: usize,
     call: &mut impl FnMut(&mut [u8]) -> u32,
     faults: &mut Faults,
-) -> (u32, Vec<u64>) {
+) -> (u32, Vec<u8>) {
     let mut out = Lent::room(room);
     let code = call(out.slice());
-    let written = if code == 0 { full.min(room) } else { 0 };
+    let written = if code == proved::OK {
+        size.min(room)
+    } else {
+        0
+    };
     let kept = out.is_unchanged_but(0..written);
     faults.unless(kept, "the answer's slice changed where it must not");
-    (code, shape::numbers(&out.slice()[..written]))
+    (code, out.slice()[..written].to_vec())
 }
 
 impl Told {
     /// In the words of the other sides; a present part is told from `base` on.
-    pub fn text(&self, shape: &[Item], base: usize) -> String {
+    pub fn text(&self, shape: &Shape, base: usize) -> String {
         let mut out = Words::new();
         match self.code {
-            0 => shape::put(shape, &self.numbers, base as u64, out.put(0)),
-            NONE => {
+            proved::OK => shape.put(&self.answer, base as u64, out.put(0)),
+            proved::NONE => {
                 out.put('~');
             }
             refused => {

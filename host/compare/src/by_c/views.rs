@@ -3,74 +3,107 @@
 
 use proved::InRange;
 
+use super::around::{Around, told_in_both};
 use super::faults::Faults;
 use super::lent::Lent;
-use super::shape::{Item, NUMBER, count};
-use super::told::{OUTSIDE, told};
-use crate::text::Words;
+use super::shape::{Item, Shape};
+use super::told::told;
 
 use Item::{Number, Optional, Part};
 
 pub struct View {
     read: InRange,
-    shape: &'static [Item],
+    shape: Shape,
 }
 
-/// Id, lat, lon; keys, vals, info.
-pub const NODE: View = View {
-    read: proved::node,
-    shape: &[Number, Number, Number, Part, Part, Part],
-};
-/// Id; keys, vals, info, refs, lats, lons, pins.
-pub const WAY: View = View {
-    read: proved::way,
-    shape: &[Number, Part, Part, Part, Part, Part, Part, Part],
-};
-/// Id; keys, vals, info, roles, memids, types.
-pub const RELATION: View = View {
-    read: proved::relation,
-    shape: &[Number, Part, Part, Part, Part, Part, Part],
-};
-/// Ids, info, lats, lons, keys_vals.
-pub const DENSE_NODES: View = View {
-    read: proved::dense_nodes,
-    shape: &[Part; 5],
-};
-/// Versions, timestamps, changesets, uids, user_sids, visibles.
-pub const DENSE_INFO: View = View {
-    read: proved::dense_info,
-    shape: &[Part; 6],
-};
-/// The same six, one each.
-pub const INFO: View = View {
-    read: proved::info,
-    shape: &[Optional; 6],
-};
-/// The dense message.
-pub const DENSE: View = View {
-    read: proved::dense,
-    shape: &[Part],
-};
-const CLASSIFY: View = View {
-    read: proved::classify,
-    shape: &[Number],
-};
-
-/// Bytes around the range in a longer buffer. A reader that goes on behind its
-/// range finds the end of a varint there.
-pub const BEFORE: [u8; 3] = [0x0a, 0x80, 0x02];
-pub const BEHIND: [u8; 2] = [0x01, 0x0a];
-
-/// The answer about the bytes as a whole buffer; inside a longer one it must
-/// be the same, and outside of it 14.
-pub fn answer(view: &View, bytes: &[u8]) -> String {
-    let whole = in_buffer(view, &[], bytes, &[]);
-    let inside = in_buffer(view, &BEFORE, bytes, &BEHIND);
-    let mut out = Words::new();
-    out.put(&whole);
-    if inside != whole {
-        out.put("but inside a longer buffer").put(inside);
+impl View {
+    const fn new(read: InRange, size: usize, items: &'static [Item]) -> View {
+        let shape = Shape::new(size, items);
+        View { read, shape }
     }
+}
+
+pub const NODE: View = View::new(
+    proved::node,
+    proved::NODE_SIZE,
+    &[
+        Number(proved::NODE_ID),
+        Number(proved::NODE_LAT),
+        Number(proved::NODE_LON),
+        Part(proved::NODE_KEYS),
+        Part(proved::NODE_VALS),
+        Part(proved::NODE_INFO),
+    ],
+);
+pub const WAY: View = View::new(
+    proved::way,
+    proved::WAY_SIZE,
+    &[
+        Number(proved::WAY_ID),
+        Part(proved::WAY_KEYS),
+        Part(proved::WAY_VALS),
+        Part(proved::WAY_INFO),
+        Part(proved::WAY_REFS),
+        Part(proved::WAY_LAT),
+        Part(proved::WAY_LON),
+        Part(proved::WAY_PINS),
+    ],
+);
+pub const RELATION: View = View::new(
+    proved::relation,
+    proved::RELATION_SIZE,
+    &[
+        Number(proved::RELATION_ID),
+        Part(proved::RELATION_KEYS),
+        Part(proved::RELATION_VALS),
+        Part(proved::RELATION_INFO),
+        Part(proved::RELATION_ROLES),
+        Part(proved::RELATION_MEMIDS),
+        Part(proved::RELATION_TYPES),
+    ],
+);
+pub const DENSE_NODES: View = View::new(
+    proved::dense_nodes,
+    proved::DENSE_NODES_SIZE,
+    &[
+        Part(proved::DENSE_NODES_ID),
+        Part(proved::DENSE_NODES_INFO),
+        Part(proved::DENSE_NODES_LAT),
+        Part(proved::DENSE_NODES_LON),
+        Part(proved::DENSE_NODES_KEYS_VALS),
+    ],
+);
+pub const DENSE_INFO: View = View::new(
+    proved::dense_info,
+    proved::DENSE_INFO_SIZE,
+    &[
+        Part(proved::DENSE_INFO_VERSION),
+        Part(proved::DENSE_INFO_TIMESTAMP),
+        Part(proved::DENSE_INFO_CHANGESET),
+        Part(proved::DENSE_INFO_UID),
+        Part(proved::DENSE_INFO_USER_SID),
+        Part(proved::DENSE_INFO_VISIBLE),
+    ],
+);
+pub const INFO: View = View::new(
+    proved::info,
+    proved::INFO_SIZE,
+    &[
+        Optional(proved::INFO_VERSION_PRESENT, proved::INFO_VERSION_VALUE),
+        Optional(proved::INFO_TIMESTAMP_PRESENT, proved::INFO_TIMESTAMP_VALUE),
+        Optional(proved::INFO_CHANGESET_PRESENT, proved::INFO_CHANGESET_VALUE),
+        Optional(proved::INFO_UID_PRESENT, proved::INFO_UID_VALUE),
+        Optional(proved::INFO_USER_SID_PRESENT, proved::INFO_USER_SID_VALUE),
+        Optional(proved::INFO_VISIBLE_PRESENT, proved::INFO_VISIBLE_VALUE),
+    ],
+);
+/// The dense message.
+pub const DENSE: View = View::new(proved::dense, proved::PART_SIZE, &[Part(0)]);
+const CLASSIFY: View = View::new(proved::classify, proved::KIND_SIZE, &[Number(0)]);
+
+/// The answer about the bytes; outside of the buffer it is 14.
+pub fn answer(view: &View, bytes: &[u8]) -> String {
+    let mut out = told_in_both(bytes, |around| in_buffer(view, around));
     outside(view, bytes).put(&mut out);
     out.done()
 }
@@ -84,22 +117,22 @@ pub fn classify(bytes: &[u8]) -> String {
     }
 }
 
-fn in_buffer(view: &View, before: &[u8], bytes: &[u8], behind: &[u8]) -> String {
-    let mut buffer = Lent::bytes(&[before, bytes, behind].concat());
+fn in_buffer(view: &View, around: Around) -> String {
+    let mut buffer = Lent::bytes(&around.buffer);
     let mut faults = Faults::default();
-    let mut told = told(count(view.shape), |out| {
-        let code = (view.read)(buffer.slice(), before.len(), bytes.len(), out);
+    let mut told = told(view.shape.size, |out| {
+        let code = (view.read)(buffer.slice(), around.start, around.len, out);
         faults.unless(buffer.is_unchanged(), "the buffer changed");
         code
     });
     told.faults.join(faults);
-    told.text(view.shape, before.len())
+    told.text(&view.shape, around.start)
 }
 
 /// Ranges that pass the buffer by one, that begin behind it, and that wrap.
 fn outside(view: &View, bytes: &[u8]) -> Faults {
     let mut buffer = Lent::bytes(bytes);
-    let mut out = Lent::room(NUMBER * count(view.shape));
+    let mut out = Lent::room(view.shape.size);
     let len = bytes.len();
     let mut faults = Faults::default();
     for (start, len) in [
@@ -111,7 +144,10 @@ fn outside(view: &View, bytes: &[u8]) -> Faults {
         (usize::MAX, len + 1),
     ] {
         let code = (view.read)(buffer.slice(), start, len, out.slice());
-        faults.unless(code == OUTSIDE, "a range outside is not refused with 14");
+        faults.unless(
+            code == proved::OUTSIDE,
+            "a range outside is not refused with 14",
+        );
         let kept = buffer.is_unchanged() && out.is_unchanged();
         faults.unless(kept, "a range outside changed what was lent");
     }

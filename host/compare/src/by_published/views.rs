@@ -62,23 +62,27 @@ fn view<T, E: std::fmt::Display>(
 
 fn put_node(bytes: &[u8], n: WireNode<'_>, out: &mut Words) {
     out.put(n.id).put(n.lat).put(n.lon);
-    columns(bytes, &[n.keys_data, n.vals_data], out);
-    put_message(bytes, n.info_data, out);
+    put_common(bytes, (n.keys_data, n.vals_data, n.info_data), out);
 }
 
 fn put_way(bytes: &[u8], w: WireWay<'_>, out: &mut Words) {
     out.put(w.id);
-    columns(bytes, &[w.keys_data, w.vals_data], out);
-    put_message(bytes, w.info_data, out);
+    put_common(bytes, (w.keys_data, w.vals_data, w.info_data), out);
     columns(bytes, &[w.refs_data, w.lat_data, w.lon_data], out);
     put_message(bytes, w.pins_data, out);
 }
 
 fn put_relation(bytes: &[u8], r: WireRelation<'_>, out: &mut Words) {
     out.put(r.id);
-    columns(bytes, &[r.keys_data, r.vals_data], out);
-    put_message(bytes, r.info_data, out);
+    put_common(bytes, (r.keys_data, r.vals_data, r.info_data), out);
     columns(bytes, &[r.roles_sid_data, r.memids_data, r.types_data], out);
+}
+
+/// Keys, vals and info.
+fn put_common(bytes: &[u8], common: (&[u8], &[u8], Option<&[u8]>), out: &mut Words) {
+    let (keys, vals, info) = common;
+    columns(bytes, &[keys, vals], out);
+    put_message(bytes, info, out);
 }
 
 fn put_dense(bytes: &[u8], d: WireDenseNodes<'_>, out: &mut Words) {

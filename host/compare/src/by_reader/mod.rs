@@ -54,10 +54,10 @@ pub fn verdict(bytes: &[u8]) -> Refusal {
 
 /// The block scanned in a buffer just large enough for its tables.
 pub fn open(bytes: &[u8]) -> Result<(Vec<u8>, Record), Refusal> {
-    // A table has no more entries than the block has bytes.
-    let mut buffer = scan_buffer(bytes, 9 * bytes.len() as u64);
-    let record = reader::scan(&mut buffer, bytes.len() as u64)?;
-    buffer.truncate((record.group_table + 8 * record.group_count) as usize);
+    let len = bytes.len() as u64;
+    let mut buffer = scan_buffer(bytes, reader::always_enough(len));
+    let record = reader::scan(&mut buffer, len)?;
+    buffer.truncate(record.end() as usize);
     Ok((buffer, record))
 }
 

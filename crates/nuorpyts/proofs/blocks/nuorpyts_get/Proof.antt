@@ -1,64 +1,60 @@
 -- `nuorpyts_get` tests the room for the answer, then the record; then code and bytes are those of what `get` gave.
-use mathlib.Core.Path.{refl}
-use Rattle.protobuf.proofs.laws.Read.{says}
-use Rattle.nuorpyts.specs.Block.{recordOf}
-use Rattle.nuorpyts.proofs.laws.Codes.{too-short}
-use Rattle.nuorpyts.proofs.laws.Block.{get-no-record, get-with-record, got-answer}
 use borrow.Author.Needs.{needs}
+use Prim.Native.Nat.{ℕ}
+use mathlib.Core.List.{List}
+use mathlib.Core.Path.{_≡_, refl, ap, _∙_}
+use Rattle.protobuf.proofs.laws.Read.{says}
+use Rattle.answers.specs.Words.{filled}
+use Rattle.answers.specs.Record.{recordOf}
+use Rattle.wire.specs.declared.lookup.Got.{Got}
+use Rattle.nuorpyts.specs.Block.{getIn, gotCode, gotAfter}
+use Rattle.nuorpyts.proofs.laws.Block.{get-no-record, get-with-record, got-short, got-answer}
+use Rattle.nuorpyts.proofs.laws.Scanned.{GetClauses, get-clauses}
 use Rattle.nuorpyts.proofs.blocks.nuorpyts_get.Statement.{statement}
 use Rattle.nuorpyts.proofs.blocks.nuorpyts_get.Tie as tie
 
-returns : tie.Need-returns
-returns c =
-    let out = c .before .before .before .before .args .out .now in
-    (too-short 16 out _ _ (c .if1 .taken), too-short 16 out _ _ (c .if1 .taken))
+-- where the call was entered
+abbrev entered : tie.After-get → tie.Start
+entered c = c .before .before .before .before .before .before .before .before .before
 
-record-in-requires : tie.Need-record-in-requires
-record-in-requires c κs = search needs
-
-enum-told : tie.Need-enum-told
-enum-told c = search needs
-
-enum-known-r : tie.Need-enum-known-r
-enum-known-r c = search needs
-
-get-requires : tie.Need-get-requires
-get-requires c κs = search needs
-
-put-got-requires : tie.Need-put-got-requires
-put-got-requires c κs = search needs
-
-returns-2 : tie.Need-returns-2
-returns-2 c =
+-- what `get` answered is what is asked through the record, and all clauses follow from it
+answers : (c : tie.After-get) {m : Got} {code : ℕ} {after : List ℕ} → c .get .result ≡ m → code ≡ gotCode m → after ≡ gotAfter (entered c .args .out .now) m → GetClauses (entered c .args .buffer .now) (entered c .args .rec .now) (entered c .args .out .now) (entered c .args .index) code after
+answers c e g k =
     let r = c .before .before in
-    let a = r .before .before .before .before .before .args in
-    got-answer (a .out .now) (r .before .if1 .left)
-    (get-no-record (a .buffer .now) (a .rec .now) (a .index) (says recordOf (r .record-in .ensures) (c .enum-told .given .1)))
-    refl
-    refl
-
-same-length : tie.Need-same-length
-same-length c = search needs
-
-returns-3 : tie.Need-returns-3
-returns-3 c =
-    let r = c .before .before .before .before .before .before .before .before in
-    let a = r .before .before .before .before .before .args in
-    got-answer (a .out .now) (r .before .if1 .left)
-    (get-with-record (a .buffer .now) (a .rec .now) (a .index) (says recordOf (r .record-in .ensures) (c .before .before .before .before .before .before .r .given .1)) (c .before .before .before .get .ensures))
-    (c .before .before .put-got .ensures .0)
-    (c .before .before .put-got .ensures .1)
+    let room = r .before .before .before .if1 .left in
+    let a = entered c .args in
+    let asked = get-with-record (a .buffer .now) (a .rec .now) (a .index) (says recordOf (r .before .before .record-in .ensures) (r .r .given .1)) (c .get .ensures .0) e in
+    get-clauses (a .buffer .now) (a .rec .now) (a .out .now) (a .index) (entered c .good .0 .0) (got-answer (a .out .now) room asked g k)
 
 pub nuorpyts-get-spec : {M : Type 1} → statement M
 nuorpyts-get-spec =
     tie.close
     (tie.spec
-    returns
-    record-in-requires
-    enum-told
-    enum-known-r
-    get-requires
-    put-got-requires
-    returns-2
-    same-length
-    returns-3)
+    (λ c.
+    let p = c .before .before .before .before in
+    let a = p .args in
+    get-clauses (a .buffer .now) (a .rec .now) (a .out .now) (a .index) (p .good .0 .0) (got-short (a .out .now) (getIn (a .buffer .now) (a .rec .now) (a .index)) (c .if1 .taken)))
+    (λ c κs. search needs)
+    (λ c. search needs)
+    (λ c. search needs)
+    (λ c κs. search needs)
+    (λ c. search needs)
+    (λ c κs. search needs)
+    (λ c. search needs)
+    (λ c. search needs)
+    (λ c κs. search needs)
+    (λ c. search needs)
+    (λ c κs. search needs)
+    (λ c.
+    let r = c .before .before in
+    let p = r .before .before .before .before .before in
+    let a = p .args in
+    get-clauses (a .buffer .now) (a .rec .now) (a .out .now) (a .index) (p .good .0 .0)
+    (got-answer (a .out .now) (r .before .if1 .left) (get-no-record (a .buffer .now) (a .rec .now) (a .index) (says recordOf (r .record-in .ensures) (c .enum-told .given .1))) refl refl))
+    (λ c. let g = c .before .before .before .before in answers g (c .before .before .got .given .1) (c .number .ensures) refl)
+    (λ c. answers (c .before .before) (c .enum-told2 .given .1) refl refl)
+    (λ c. search needs)
+    (λ c.
+    let told = c .before .before .before .before .before .before .before in
+    let g = told .before .before in
+    answers g (told .got2 .given .1) refl (c .before .before .put-numbers .ensures ∙ ap (filled (entered g .args .out .now)) (c .before .before .before .before .range-numbers .ensures))))

@@ -1,85 +1,63 @@
 -- `nuorpyts_group` tests the room for the answer, then the record; then code and bytes are those of what `group` gave.
-use mathlib.Core.Path.{refl}
-use Rattle.protobuf.proofs.laws.Read.{says}
-use Rattle.nuorpyts.specs.Block.{recordOf, rangeWords}
-use Rattle.nuorpyts.proofs.laws.Codes.{too-short, answer-kept, answer-refused}
-use Rattle.nuorpyts.proofs.laws.Block.{group-no-record, group-with-record}
 use borrow.Author.Needs.{needs}
+use Prim.Native.Nat.{ℕ}
+use mathlib.Core.List.{List}
+use mathlib.Core.Path.{_≡_, refl}
+use Rattle.protobuf.proofs.laws.Read.{says}
+use Rattle.wire.specs.declared.lookup.GroupRange.{GroupRange}
+use Rattle.answers.specs.Record.{recordOf}
+use Rattle.answers.specs.Group.{rangeWords}
+use Rattle.answers.proofs.laws.Codes.{Answered, answer-short, answer-refused, answer-kept}
+use Rattle.nuorpyts.specs.Block.{groupIn, rangeOf}
+use Rattle.nuorpyts.proofs.laws.Block.{group-no-record, group-with-record}
+use Rattle.nuorpyts.proofs.laws.Scanned.{GroupClauses, group-clauses}
 use Rattle.nuorpyts.proofs.blocks.nuorpyts_group.Statement.{statement}
 use Rattle.nuorpyts.proofs.blocks.nuorpyts_group.Tie as tie
 
-returns : tie.Need-returns
-returns c =
-    let out = c .before .before .before .before .args .out .now in
-    (too-short 16 out _ _ (c .if1 .taken), too-short 16 out _ _ (c .if1 .taken))
+-- where the call was entered
+abbrev entered : tie.After-group → tie.Start
+entered c = c .before .before .before .before .before .before .before .before .before
 
-record-in-requires : tie.Need-record-in-requires
-record-in-requires c κs = search needs
-
-enum-told : tie.Need-enum-told
-enum-told c = search needs
-
-enum-known-r : tie.Need-enum-known-r
-enum-known-r c = search needs
-
-group-requires : tie.Need-group-requires
-group-requires c κs = search needs
-
-enum-known-found : tie.Need-enum-known-found
-enum-known-found c = search needs
-
-number-requires : tie.Need-number-requires
-number-requires c κs = search needs
-
-enum-known-found-2 : tie.Need-enum-known-found-2
-enum-known-found-2 c = search needs
-
-put-range-requires : tie.Need-put-range-requires
-put-range-requires c κs = search needs
-
-returns-2 : tie.Need-returns-2
-returns-2 c =
+-- what `group` answered is what is asked through the record
+asked : (c : tie.After-group) {m : GroupRange} → c .group .result ≡ m → let a = entered c .args in groupIn (a .buffer .now) (a .rec .now) (a .index) ≡ rangeOf m
+asked c e =
     let r = c .before .before in
-    let a = r .before .before .before .before .before .args in
-    answer-refused 2 rangeWords (a .out .now) (r .before .if1 .left)
-    (group-no-record (a .buffer .now) (a .rec .now) (a .index) (says recordOf (r .record-in .ensures) (c .enum-told .given .1)))
-    refl
+    let a = entered c .args in
+    group-with-record (a .buffer .now) (a .rec .now) (a .index) (says recordOf (r .before .before .record-in .ensures) (r .r .given .1)) (c .group .ensures .0) e
 
-returns-3 : tie.Need-returns-3
-returns-3 c =
-    let g = c .before .before .before .before in
-    let r = g .before .before .before .before in
-    let a = r .before .before .before .before .before .args in
-    answer-refused 2 rangeWords (a .out .now) (r .before .if1 .left)
-    (group-with-record (a .buffer .now) (a .rec .now) (a .index) (says recordOf (r .record-in .ensures) (g .before .before .r .given .1)) (g .group .ensures) (c .before .before .found .given .1))
-    (c .number .ensures)
-
-same-length : tie.Need-same-length
-same-length c = search needs
-
-returns-4 : tie.Need-returns-4
-returns-4 c =
-    let g = c .before .before .before .before .before .before .before in
-    let r = g .before .before .before .before in
-    let a = r .before .before .before .before .before .args in
-    answer-kept 2 rangeWords (a .out .now) (r .before .if1 .left)
-    (group-with-record (a .buffer .now) (a .rec .now) (a .index) (says recordOf (r .record-in .ensures) (g .before .before .r .given .1)) (g .group .ensures) (c .before .before .before .before .before .found2 .given .1))
-    (c .before .before .put-range .ensures)
+-- all clauses follow from code and bytes
+answers : (c : tie.After-group) {code : ℕ} {after : List ℕ} → let a = entered c .args in Answered 2 rangeWords (a .out .now) code after (groupIn (a .buffer .now) (a .rec .now) (a .index)) → GroupClauses (a .buffer .now) (a .rec .now) (a .out .now) (a .index) code after
+answers c e = let a = entered c .args in group-clauses (a .buffer .now) (a .rec .now) (a .out .now) (a .index) (entered c .good .0 .0) e
 
 pub nuorpyts-group-spec : {M : Type 1} → statement M
 nuorpyts-group-spec =
     tie.close
     (tie.spec
-    returns
-    record-in-requires
-    enum-told
-    enum-known-r
-    group-requires
-    enum-known-found
-    number-requires
-    enum-known-found-2
-    put-range-requires
-    returns-2
-    returns-3
-    same-length
-    returns-4)
+    (λ c.
+    let p = c .before .before .before .before in
+    let a = p .args in
+    group-clauses (a .buffer .now) (a .rec .now) (a .out .now) (a .index) (p .good .0 .0) (answer-short 2 rangeWords (a .out .now) (λ a. refl) (groupIn (a .buffer .now) (a .rec .now) (a .index)) (c .if1 .taken)))
+    (λ c κs. search needs)
+    (λ c. search needs)
+    (λ c. search needs)
+    (λ c κs. search needs)
+    (λ c. search needs)
+    (λ c κs. search needs)
+    (λ c. search needs)
+    (λ c κs. search needs)
+    (λ c. search needs)
+    (λ c κs. search needs)
+    (λ c.
+    let r = c .before .before in
+    let p = r .before .before .before .before .before in
+    let a = p .args in
+    group-clauses (a .buffer .now) (a .rec .now) (a .out .now) (a .index) (p .good .0 .0)
+    (answer-refused 2 rangeWords (a .out .now) (r .before .if1 .left) (group-no-record (a .buffer .now) (a .rec .now) (a .index) (says recordOf (r .record-in .ensures) (c .enum-told .given .1))) refl))
+    (λ c.
+    let g = c .before .before .before .before in
+    answers g (answer-refused 2 rangeWords (entered g .args .out .now) (g .before .before .before .before .before .if1 .left) (asked g (c .before .before .found .given .1)) (c .number .ensures)))
+    (λ c. search needs)
+    (λ c.
+    let told = c .before .before .before .before .before .before .before in
+    let g = told .before .before in
+    answers g (answer-kept 2 rangeWords (entered g .args .out .now) (g .before .before .before .before .before .if1 .left) (asked g (told .found2 .given .1)) (c .before .before .before .before .range-numbers .ensures) (c .before .before .put-numbers .ensures))))

@@ -1,56 +1,31 @@
 -- `nuorpyts_info` tests `out`, and then answers what `WireInfo::parse` does.
-use native.Mathlib.Omega.{arith}
-use Rattle.protobuf.proofs.laws.Read.{says}
-use Rattle.views.specs.Outcome.{each}
-use Rattle.views.specs.Info.{parsedInfo}
-use Rattle.nuorpyts.specs.Views.{infoWords}
-use Rattle.nuorpyts.proofs.laws.Codes.{answer-short, answer-refused, answer-kept}
 use borrow.Author.Needs.{needs}
+use native.Mathlib.Omega.{arith}
+use mathlib.Core.Path.{refl}
+use Rattle.protobuf.proofs.laws.Read.{says}
+use Rattle.fields.specs.Outcome.{each}
+use Rattle.views.specs.Info.{parsedInfo}
+use Rattle.answers.specs.Views.{infoWords}
+use Rattle.answers.proofs.laws.Codes.{answer-short, answer-refused, answer-kept}
 use Rattle.nuorpyts.proofs.messages.nuorpyts_info.Statement.{statement}
 use Rattle.nuorpyts.proofs.messages.nuorpyts_info.Tie as tie
-
-returns : tie.Need-returns
-returns c = answer-short 12 infoWords _ (each _ _) (omega arith)
-
-parse-requires : tie.Need-parse-requires
-parse-requires c κs = search needs
-
-enum-known-r : tie.Need-enum-known-r
-enum-known-r c = search needs
-
-number-requires : tie.Need-number-requires
-number-requires c κs = search needs
-
-enum-known-r-2 : tie.Need-enum-known-r-2
-enum-known-r-2 c = search needs
-
-put-info-requires : tie.Need-put-info-requires
-put-info-requires c κs = search needs
-
-returns-2 : tie.Need-returns-2
-returns-2 c =
-    let p = c .before .before .before .before in
-    answer-refused 12 infoWords _ (omega arith) (says parsedInfo (p .parse .ensures) (c .before .before .r .given .1)) (c .number .ensures)
-
-same-length : tie.Need-same-length
-same-length c = search needs
-
-returns-3 : tie.Need-returns-3
-returns-3 c =
-    let b = c .before .before in
-    let p = b .before .before .before .before .before in
-    answer-kept 12 infoWords (p .before .before .before .before .args .out .now) (omega arith) (says parsedInfo (p .parse .ensures) (b .before .before .before .r2 .given .1)) (b .put-info .ensures)
 
 pub nuorpyts-info-spec : {M : Type 1} → statement M
 nuorpyts-info-spec =
     tie.close
     (tie.spec
-    returns
-    parse-requires
-    enum-known-r
-    number-requires
-    enum-known-r-2
-    put-info-requires
-    returns-2
-    same-length
-    returns-3)
+    (λ c. answer-short 12 infoWords _ (λ a. refl) (each _ _) (omega arith))
+    (λ c κs. search needs)
+    (λ c. search needs)
+    (λ c κs. search needs)
+    (λ c. search needs)
+    (λ c κs. search needs)
+    (λ c. search needs)
+    (λ c κs. search needs)
+    (λ c.
+    answer-refused 12 infoWords _ (omega arith) (says parsedInfo (c .before .before .before .before .parse .ensures) (c .before .before .r .given .1)) (c .number .ensures))
+    (λ c. search needs)
+    (λ c.
+    let v = c .before .before .before .before .before .before .before in
+    let p = v .before .before in
+    answer-kept 12 infoWords (p .before .before .before .before .args .out .now) (p .before .if1 .left) (says parsedInfo (p .parse .ensures) (v .r2 .given .1)) (c .before .before .before .before .info-numbers .ensures) (c .before .before .put-numbers .ensures)))

@@ -12,7 +12,7 @@ use mir.Syntax.{w64}
 use mir.Val.{SFits, toZ, ofZ}
 use mir.Facts.{toZ-ofZ, fits-natAbs}
 use mir.ValLaws.{toZ-pos}
-use Rattle.protobuf.proofs.laws.Machine.{not-negative, negative}
+use Rattle.numbers.proofs.laws.Machine.{not-negative, negative}
 use Rattle.protobuf_vectors.proofs.out.magnitude.Statement.{statement}
 use Rattle.protobuf_vectors.proofs.out.magnitude.Tie as tie
 
@@ -23,20 +23,12 @@ counted (negsuc n) f e =
     let reads : toZ w64 (2 ^ 64 - 1 - (2 ^ 64 - suc n)) ≡ pos n = ap (toZ w64) back ∙ toZ-pos w64 n (f .sfits) in
     ap (λ (z : ℤ). natAbs z + 1) reads ∙ add-one n
 
-cast-result : tie.Need-cast-result
-cast-result c = negative w64 (c .before .fits .n) (c .if1 .taken) .asks
-
-add-result : tie.Need-add-result
-add-result c = rw (counted (c .before .args .n) (c .before .fits .n) (c .if1 .taken)) (fits-natAbs tt (c .before .fits .n))
-
-cast-result-2 : tie.Need-cast-result-2
-cast-result-2 c = not-negative w64 (c .before .fits .n) (c .if1 .left) .asks
-
-returns : tie.Need-returns
-returns c = counted (c .before .args .n) (c .before .fits .n) (c .if1 .taken)
-
-returns-2 : tie.Need-returns-2
-returns-2 c = ap natAbs (toZ-ofZ (c .before .fits .n))
-
 pub magnitude-spec : {M : Type 1} → statement M
-magnitude-spec = tie.close (tie.spec cast-result add-result cast-result-2 returns returns-2)
+magnitude-spec =
+    tie.close
+    (tie.spec
+    (λ c. negative w64 (c .before .fits .n) (c .if1 .taken) .asks)
+    (λ c. rw (counted (c .before .args .n) (c .before .fits .n) (c .if1 .taken)) (fits-natAbs tt (c .before .fits .n)))
+    (λ c. not-negative w64 (c .before .fits .n) (c .if1 .left) .asks)
+    (λ c. counted (c .before .args .n) (c .before .fits .n) (c .if1 .taken))
+    (λ c. ap natAbs (toZ-ofZ (c .before .fits .n))))

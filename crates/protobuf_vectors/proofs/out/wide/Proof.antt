@@ -1,5 +1,4 @@
 -- `wide` gives the same number, which 64 bits hold as 32 do.
-use borrow.Author.Needs.{needs}
 use mathlib.Core.Path.{_∙_}
 use mir.Facts.{toZ-ofZ, sfits-widen}
 use Rattle.protobuf_vectors.proofs.out.wide.Statement.{statement}

@@ -10,69 +10,24 @@ Inv-loop out₀ s column₀ end₀ steps₀ out column end steps = Unit {0}
 abbrev μ-loop : tie.MeasureT-loop
 μ-loop out₀ s column₀ end₀ steps₀ out column end steps = 2048 - steps
 
-loop-holds : tie.Need-loop-holds Inv-loop μ-loop
-loop-holds c = search needs
-
-next-value-requires : tie.Need-next-value-requires Inv-loop μ-loop
-next-value-requires c κs = search needs
-
-enum-told : tie.Need-enum-told Inv-loop μ-loop
-enum-told c = search needs
-
-end-steps-requires : tie.Need-end-steps-requires Inv-loop μ-loop
-end-steps-requires c κs = search needs
-
-returns : tie.Need-returns Inv-loop μ-loop
-returns c = search needs
-
-enum-known-r : tie.Need-enum-known-r Inv-loop μ-loop
-enum-known-r c = search needs
-
-stop-steps-requires : tie.Need-stop-steps-requires Inv-loop μ-loop
-stop-steps-requires c κs = search needs
-
-returns-2 : tie.Need-returns-2 Inv-loop μ-loop
-returns-2 c = search needs
-
-enum-known-r-2 : tie.Need-enum-known-r-2 Inv-loop μ-loop
-enum-known-r-2 c = search needs
-
-put-value-requires : tie.Need-put-value-requires Inv-loop μ-loop
-put-value-requires c κs = search needs
-
-add-steps : tie.Need-add-steps Inv-loop μ-loop
-add-steps c = search needs
-
-loop-less : tie.Need-loop-less Inv-loop μ-loop
-loop-less c = search needs
-
-loop-again : tie.Need-loop-again Inv-loop μ-loop
-loop-again c = search needs
-
-whole-requires : tie.Need-whole-requires Inv-loop μ-loop
-whole-requires c κs = search needs
-
-returns-3 : tie.Need-returns-3 Inv-loop μ-loop
-returns-3 c = search needs
-
 pub ask-column-spec : {M : Type 1} → statement M
 ask-column-spec =
     tie.close
     (tie.spec
     Inv-loop
     μ-loop
-    loop-holds
-    next-value-requires
-    enum-told
-    end-steps-requires
-    returns
-    enum-known-r
-    stop-steps-requires
-    returns-2
-    enum-known-r-2
-    put-value-requires
-    add-steps
-    loop-less
-    loop-again
-    whole-requires
-    returns-3)
+    (λ c. search needs)
+    (λ c κs. search needs)
+    (λ c. search needs)
+    (λ c κs. search needs)
+    (λ c. search needs)
+    (λ c. search needs)
+    (λ c κs. search needs)
+    (λ c. search needs)
+    (λ c. search needs)
+    (λ c κs. search needs)
+    (λ c. search needs)
+    (λ c. search needs)
+    (λ c. search needs)
+    (λ c κs. search needs)
+    (λ c. search needs))

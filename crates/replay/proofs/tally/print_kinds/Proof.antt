@@ -10,25 +10,7 @@ Inv-loop counts kind₀ kind = Unit {0}
 abbrev μ-loop : tie.MeasureT-loop
 μ-loop counts kind₀ kind = 16 - kind
 
-loop-holds : tie.Need-loop-holds Inv-loop μ-loop
-loop-holds c = search needs
-
-print-kind-requires : tie.Need-print-kind-requires Inv-loop μ-loop
-print-kind-requires c κs = search needs
-
-add-kind : tie.Need-add-kind Inv-loop μ-loop
-add-kind c = search needs
-
-loop-less : tie.Need-loop-less Inv-loop μ-loop
-loop-less c = search needs
-
-loop-again : tie.Need-loop-again Inv-loop μ-loop
-loop-again c = search needs
-
-returns : tie.Need-returns Inv-loop μ-loop
-returns c = search needs
-
 pub print-kinds-spec : {M : Type 1} → statement M
 print-kinds-spec =
     tie.close
-    (tie.spec Inv-loop μ-loop loop-holds print-kind-requires add-kind loop-less loop-again returns)
+    (tie.spec Inv-loop μ-loop (λ c. search needs) (λ c κs. search needs) (λ c. search needs) (λ c. search needs) (λ c. search needs) (λ c. search needs))

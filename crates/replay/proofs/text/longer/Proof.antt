@@ -7,8 +7,5 @@ use Rattle.replay.proofs.text.longer.Tie as tie
 cast-result : tie.Need-cast-result
 cast-result c = rw (toZ-ofZ (c .fits .x)) (sfits-widen tt (c .fits .x))
 
-returns : tie.Need-returns
-returns c = search needs
-
 pub longer-spec : {M : Type 1} → statement M
-longer-spec = tie.close (tie.spec cast-result returns)
+longer-spec = tie.close (tie.spec cast-result (λ c. search needs))

@@ -5,30 +5,6 @@ use borrow.Author.Needs.{needs}
 use Rattle.views.proofs.info.info_of.Statement.{statement}
 use Rattle.views.proofs.info.info_of.Tie as tie
 
-unless-minus-one32-requires : tie.Need-unless-minus-one32-requires
-unless-minus-one32-requires c κs = search needs
-
-int32-of-requires : tie.Need-int32-of-requires
-int32-of-requires c κs = search needs
-
-int64-of-requires : tie.Need-int64-of-requires
-int64-of-requires c κs = search needs
-
-unless-minus-one64-requires : tie.Need-unless-minus-one64-requires
-unless-minus-one64-requires c κs = search needs
-
-int64-of-requires-2 : tie.Need-int64-of-requires-2
-int64-of-requires-2 c κs = search needs
-
-int32-of-requires-2 : tie.Need-int32-of-requires-2
-int32-of-requires-2 c κs = search needs
-
-int32-of-requires-3 : tie.Need-int32-of-requires-3
-int32-of-requires-3 c κs = search needs
-
-bool-of-requires : tie.Need-bool-of-requires
-bool-of-requires c κs = search needs
-
 returns : tie.Need-returns
 returns c =
     let b = c .before .before .before in
@@ -46,12 +22,12 @@ pub info-of-spec : {M : Type 1} → statement M
 info-of-spec =
     tie.close
     (tie.spec
-    unless-minus-one32-requires
-    int32-of-requires
-    int64-of-requires
-    unless-minus-one64-requires
-    int64-of-requires-2
-    int32-of-requires-2
-    int32-of-requires-3
-    bool-of-requires
+    (λ c κs. search needs)
+    (λ c κs. search needs)
+    (λ c κs. search needs)
+    (λ c κs. search needs)
+    (λ c κs. search needs)
+    (λ c κs. search needs)
+    (λ c κs. search needs)
+    (λ c κs. search needs)
     returns)

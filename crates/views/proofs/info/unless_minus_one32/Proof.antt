@@ -5,9 +5,6 @@ use borrow.Author.Needs.{needs}
 use Rattle.views.proofs.info.unless_minus_one32.Statement.{statement}
 use Rattle.views.proofs.info.unless_minus_one32.Tie as tie
 
-int32-requires : tie.Need-int32-requires
-int32-requires c κs = search needs
-
 returns : tie.Need-returns
 returns c = simp (minus-one w32 (c .before .int32 .ok) (c .before .int32 .ensures) (c .if1 .taken))
 
@@ -15,4 +12,4 @@ returns-2 : tie.Need-returns-2
 returns-2 c = simp (not-minus-one w32 (c .before .int32 .ok) (c .before .int32 .ensures) (c .if1 .left))
 
 pub unless-minus-one32-spec : {M : Type 1} → statement M
-unless-minus-one32-spec = tie.close (tie.spec int32-requires returns returns-2)
+unless-minus-one32-spec = tie.close (tie.spec (λ c κs. search needs) returns returns-2)

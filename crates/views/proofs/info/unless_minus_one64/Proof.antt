@@ -5,9 +5,6 @@ use borrow.Author.Needs.{needs}
 use Rattle.views.proofs.info.unless_minus_one64.Statement.{statement}
 use Rattle.views.proofs.info.unless_minus_one64.Tie as tie
 
-int64-requires : tie.Need-int64-requires
-int64-requires c κs = search needs
-
 returns : tie.Need-returns
 returns c = simp (minus-one w64 (c .before .int64 .ok) (c .before .int64 .ensures) (c .if1 .taken))
 
@@ -15,4 +12,4 @@ returns-2 : tie.Need-returns-2
 returns-2 c = simp (not-minus-one w64 (c .before .int64 .ok) (c .before .int64 .ensures) (c .if1 .left))
 
 pub unless-minus-one64-spec : {M : Type 1} → statement M
-unless-minus-one64-spec = tie.close (tie.spec int64-requires returns returns-2)
+unless-minus-one64-spec = tie.close (tie.spec (λ c κs. search needs) returns returns-2)

@@ -1,5 +1,6 @@
 -- `table_fits` compares with the entries that there is room for behind `place`, so that no product or sum wraps.
-use Rattle.wire.proofs.laws.Lookup.{none-fit, entries-fit}
+use Rattle.fields.proofs.laws.Part.{none-fit}
+use Rattle.wire.proofs.laws.Lookup.{entries-fit}
 use Rattle.wire.proofs.lookup.table_fits.Statement.{statement}
 use Rattle.wire.proofs.lookup.table_fits.Tie as tie
 

@@ -7,9 +7,9 @@ use lib.ListN.{length}
 use mathlib.Core.Path.{refl, sym, ap}
 use Rattle.protobuf.specs.Answers.{fieldOf}
 use Rattle.protobuf.proofs.laws.Read.{says}
-use Rattle.views.specs.Schema.{primitiveBlock}
+use Rattle.fields.specs.Schema.{primitiveBlock}
 use Rattle.wire.specs.Block.{blockFields, keptBlock, groupsOf}
-use Rattle.views.proofs.laws.View.{Viewed, begins, completed, cut-off, spoilt-off, not-stored, stored, further, falls}
+use Rattle.fields.proofs.laws.View.{Viewed, begins, completed, cut-off, spoilt-off, not-stored, stored, further, falls}
 use Rattle.wire.proofs.primitive_block.scan_block_fields.Statement.{statement}
 use Rattle.wire.proofs.primitive_block.scan_block_fields.Tie as tie
 
@@ -22,43 +22,25 @@ abbrev μ-loop : tie.MeasureT-loop
 loop-holds : tie.Need-loop-holds Inv-loop μ-loop
 loop-holds c = (begins blockFields primitiveBlock _, omega arith)
 
-next-field-requires : tie.Need-next-field-requires Inv-loop μ-loop
-next-field-requires c κs = search needs
-
-enum-told : tie.Need-enum-told Inv-loop μ-loop
-enum-told c = search needs
-
 returns : tie.Need-returns Inv-loop μ-loop
 returns c =
     let b = c .before .before in
     sym (completed blockFields primitiveBlock _ (b .before .loop .inv .0) (says fieldOf (b .next-field .ensures) (c .enum-told .given .1)))
-
-enum-known-f : tie.Need-enum-known-f Inv-loop μ-loop
-enum-known-f c = search needs
 
 returns-2 : tie.Need-returns-2 Inv-loop μ-loop
 returns-2 c =
     let b = c .before .before .before in
     sym (cut-off blockFields primitiveBlock _ (b .before .loop .inv .0) (says fieldOf (b .next-field .ensures) (c .before .f .given .1)))
 
-enum-known-f-2 : tie.Need-enum-known-f-2 Inv-loop μ-loop
-enum-known-f-2 c = search needs
-
 returns-3 : tie.Need-returns-3 Inv-loop μ-loop
 returns-3 c =
     let b = c .before .before .before in
     sym (spoilt-off blockFields primitiveBlock _ (b .before .loop .inv .0) (says fieldOf (b .next-field .ensures) (c .before .f2 .given .1)))
 
-enum-known-f-3 : tie.Need-enum-known-f-3 Inv-loop μ-loop
-enum-known-f-3 c = search needs
-
 store-block-requires : tie.Need-store-block-requires Inv-loop μ-loop
 store-block-requires c κs =
     let b = c .before .before .before in
     omega (arith, b .before .loop .inv .1, further blockFields primitiveBlock _ (b .before .loop .inv .0) (says fieldOf (b .next-field .ensures) (c .before .f3 .given .1)))
-
-enum-known-r : tie.Need-enum-known-r Inv-loop μ-loop
-enum-known-r c = search needs
 
 returns-4 : tie.Need-returns-4 Inv-loop μ-loop
 returns-4 c =
@@ -66,9 +48,6 @@ returns-4 c =
     let b = d .before .before .before .before in
     sym (not-stored blockFields primitiveBlock _ (b .before .loop .inv .0) (says fieldOf (b .next-field .ensures) (d .before .before .f3 .given .1))
     {out = keptBlock (d .store-block .result)} (d .store-block .ensures .0) (says keptBlock refl (c .before .r .given .1)))
-
-enum-known-r-2 : tie.Need-enum-known-r-2 Inv-loop μ-loop
-enum-known-r-2 c = search needs
 
 loop-less : tie.Need-loop-less Inv-loop μ-loop
 loop-less c =
@@ -93,17 +72,17 @@ scan-block-fields-spec =
     Inv-loop
     μ-loop
     loop-holds
-    next-field-requires
-    enum-told
+    (λ c κs. search needs)
+    (λ c. search needs)
     returns
-    enum-known-f
+    (λ c. search needs)
     returns-2
-    enum-known-f-2
+    (λ c. search needs)
     returns-3
-    enum-known-f-3
+    (λ c. search needs)
     store-block-requires
-    enum-known-r
+    (λ c. search needs)
     returns-4
-    enum-known-r-2
+    (λ c. search needs)
     loop-less
     loop-again)

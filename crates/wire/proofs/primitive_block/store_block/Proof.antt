@@ -1,22 +1,13 @@
 -- `store_block`'s match is the schema of PrimitiveBlock, row by row.
 use mathlib.Core.Path.{refl, sym, _∙_}
-use Rattle.views.specs.Outcome.{each}
-use Rattle.views.specs.View.{store, put}
-use Rattle.views.specs.Schema.{primitiveBlock}
+use Rattle.fields.specs.Outcome.{each}
+use Rattle.fields.specs.View.{store, put}
+use Rattle.fields.specs.Schema.{primitiveBlock}
 use Rattle.wire.specs.Block.{blockFields}
-use Rattle.views.proofs.laws.View.{int32-kept, int32-refused, passed-over}
+use Rattle.fields.proofs.laws.View.{int32-kept, int32-refused, passed-over}
 use borrow.Author.Needs.{needs}
 use Rattle.wire.proofs.primitive_block.store_block.Statement.{statement}
 use Rattle.wire.proofs.primitive_block.store_block.Tie as tie
-
-add-groups : tie.Need-add-groups
-add-groups c = search needs
-
-is-int32-requires : tie.Need-is-int32-requires
-is-int32-requires c κs = search needs
-
-is-int32-requires-2 : tie.Need-is-int32-requires-2
-is-int32-requires-2 c κs = search needs
 
 returns : tie.Need-returns
 unfolding store put each
@@ -70,9 +61,9 @@ pub store-block-spec : {M : Type 1} → statement M
 store-block-spec =
     tie.close
     (tie.spec
-    add-groups
-    is-int32-requires
-    is-int32-requires-2
+    (λ c. search needs)
+    (λ c κs. search needs)
+    (λ c κs. search needs)
     returns
     returns-2
     returns-3

@@ -7,11 +7,11 @@ use lib.ListN.{length}
 use mathlib.Core.Path.{refl, sym, ap, _∙_}
 use Rattle.protobuf.specs.Answers.{fieldOf}
 use Rattle.protobuf.proofs.laws.Read.{says}
-use Rattle.views.specs.Outcome.{kept, each}
-use Rattle.views.specs.View.{store, put}
-use Rattle.views.specs.Schema.{stringTable}
+use Rattle.fields.specs.Outcome.{kept, each}
+use Rattle.fields.specs.View.{store, put}
+use Rattle.fields.specs.Schema.{stringTable}
 use Rattle.wire.specs.Scan.{stringCount}
-use Rattle.views.proofs.laws.View.{Viewed, begins, completed, cut-off, spoilt-off, stored, further, falls, passed-over}
+use Rattle.fields.proofs.laws.View.{Viewed, begins, completed, cut-off, spoilt-off, stored, further, falls, passed-over}
 use Rattle.wire.proofs.scan.count_strings.Statement.{statement}
 use Rattle.wire.proofs.scan.count_strings.Tie as tie
 
@@ -24,35 +24,20 @@ abbrev μ-loop : tie.MeasureT-loop
 loop-holds : tie.Need-loop-holds Inv-loop μ-loop
 loop-holds c = (begins stringCount stringTable _, omega arith)
 
-next-field-requires : tie.Need-next-field-requires Inv-loop μ-loop
-next-field-requires c κs = search needs
-
-enum-told : tie.Need-enum-told Inv-loop μ-loop
-enum-told c = search needs
-
 returns : tie.Need-returns Inv-loop μ-loop
 returns c =
     let b = c .before .before in
     sym (completed stringCount stringTable _ (b .before .loop .inv .0) (says fieldOf (b .next-field .ensures) (c .enum-told .given .1)))
-
-enum-known-f : tie.Need-enum-known-f Inv-loop μ-loop
-enum-known-f c = search needs
 
 returns-2 : tie.Need-returns-2 Inv-loop μ-loop
 returns-2 c =
     let b = c .before .before .before in
     sym (cut-off stringCount stringTable _ (b .before .loop .inv .0) (says fieldOf (b .next-field .ensures) (c .before .f .given .1)))
 
-enum-known-f-2 : tie.Need-enum-known-f-2 Inv-loop μ-loop
-enum-known-f-2 c = search needs
-
 returns-3 : tie.Need-returns-3 Inv-loop μ-loop
 returns-3 c =
     let b = c .before .before .before in
     sym (spoilt-off stringCount stringTable _ (b .before .loop .inv .0) (says fieldOf (b .next-field .ensures) (c .before .f2 .given .1)))
-
-enum-known-f-3 : tie.Need-enum-known-f-3 Inv-loop μ-loop
-enum-known-f-3 c = search needs
 
 add-n : tie.Need-add-n Inv-loop μ-loop
 add-n c =
@@ -95,14 +80,14 @@ count-strings-spec =
     Inv-loop
     μ-loop
     loop-holds
-    next-field-requires
-    enum-told
+    (λ c κs. search needs)
+    (λ c. search needs)
     returns
-    enum-known-f
+    (λ c. search needs)
     returns-2
-    enum-known-f-2
+    (λ c. search needs)
     returns-3
-    enum-known-f-3
+    (λ c. search needs)
     add-n
     loop-less
     loop-again

@@ -3,13 +3,10 @@ use Prim.Native.Nat.{_+_, _-_, _*_, _/_}
 use native.Mathlib.Omega.{arith}
 use mathlib.Core.Path.{sym}
 use borrow.Author.Tests.{lt-leb}
-use Rattle.protobuf.proofs.laws.Test.{same-test}
+use Rattle.numbers.proofs.laws.Choose.{same-test}
 use borrow.Author.Needs.{needs}
 use Rattle.wire.proofs.scan.has_room.Statement.{statement}
 use Rattle.wire.proofs.scan.has_room.Tie as tie
-
-sub-room : tie.Need-sub-room
-sub-room c = search needs
 
 returns : tie.Need-returns
 returns c =
@@ -22,4 +19,4 @@ returns-2 c =
     same-test (a .groups) ((a .n - a .block) / 8 - a .strings) (a .block + 8 * (a .strings + a .groups)) (a .n) (λ h. omega arith) (λ h. omega arith)
 
 pub has-room-spec : {M : Type 1} → statement M
-has-room-spec = tie.close (tie.spec sub-room returns returns-2)
+has-room-spec = tie.close (tie.spec (λ c. search needs) returns returns-2)

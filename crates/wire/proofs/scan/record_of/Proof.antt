@@ -1,28 +1,10 @@
 -- `record_of` is `recordBy`, field by field.
 use Prim.Native.Nat.{_+_, _*_}
 use mir.Syntax.{w32, w64}
-use Rattle.protobuf.proofs.laws.Machine.{returned}
+use Rattle.numbers.proofs.laws.Machine.{returned}
 use borrow.Author.Needs.{needs}
 use Rattle.wire.proofs.scan.record_of.Statement.{statement}
 use Rattle.wire.proofs.scan.record_of.Tie as tie
-
-mul-t4 : tie.Need-mul-t4
-mul-t4 c = search needs
-
-add-t5 : tie.Need-add-t5
-add-t5 c = search needs
-
-int32-requires : tie.Need-int32-requires
-int32-requires c κs = search needs
-
-int32-requires-2 : tie.Need-int32-requires-2
-int32-requires-2 c κs = search needs
-
-int64-requires : tie.Need-int64-requires
-int64-requires c κs = search needs
-
-int64-requires-2 : tie.Need-int64-requires-2
-int64-requires-2 c κs = search needs
 
 returns : tie.Need-returns
 returns c =
@@ -44,10 +26,10 @@ pub record-of-spec : {M : Type 1} → statement M
 record-of-spec =
     tie.close
     (tie.spec
-    mul-t4
-    add-t5
-    int32-requires
-    int32-requires-2
-    int64-requires
-    int64-requires-2
+    (λ c. search needs)
+    (λ c. search needs)
+    (λ c κs. search needs)
+    (λ c κs. search needs)
+    (λ c κs. search needs)
+    (λ c κs. search needs)
     returns)

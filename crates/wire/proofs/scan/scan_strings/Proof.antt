@@ -1,8 +1,8 @@
--- `scan_strings` reads the chosen string table, which stands within the block, and hands on to the last stage.
+-- `scan_strings` reads the chosen string table, which stands within the block, and hands on to the third stage.
 use native.Mathlib.Omega.{arith}
 use mathlib.Core.Path.{sym, ap, _∙_}
 use Rattle.protobuf.proofs.laws.Read.{says}
-use Rattle.views.specs.Outcome.{each}
+use Rattle.fields.specs.Outcome.{each}
 use Rattle.wire.specs.Scan.{counted, meta, afterScan}
 use Rattle.wire.proofs.laws.Scan.{strings-within, strings-refused, strings-read, strings-counted}
 use borrow.Author.Needs.{needs}
@@ -14,33 +14,15 @@ add-end c =
     let r = c .before .before .before .pre in
     omega (arith, strings-within r, r .inside)
 
-sub-count-strings : tie.Need-sub-count-strings
-sub-count-strings c = search needs
-
-part-count-strings-start : tie.Need-part-count-strings-start
-part-count-strings-start c = search needs
-
 part-count-strings-end : tie.Need-part-count-strings-end
 part-count-strings-end c =
     let r = c .before .before .before .before .pre in
     omega (arith, strings-within r, r .inside)
 
-count-strings-requires : tie.Need-count-strings-requires
-count-strings-requires c κs = search needs
-
-enum-known-c : tie.Need-enum-known-c
-enum-known-c c = search needs
-
-enum-known-c-2 : tie.Need-enum-known-c-2
-enum-known-c-2 c = search needs
-
-scan-tables-requires : tie.Need-scan-tables-requires
-scan-tables-requires c κs =
+inline-tables-requires : tie.Need-inline-tables-requires
+inline-tables-requires c κs =
     let b = c .before .before .before .before in
     strings-read (b .before .before .before .before .before .before .pre) (says counted (b .count-strings .ensures) (c .before .before .c2 .given .1))
-
-same-length : tie.Need-same-length
-same-length c = search needs
 
 returns : tie.Need-returns
 unfolding each
@@ -49,29 +31,26 @@ returns c =
     let e = strings-refused (b .before .before .before .before .before .before .pre) (says counted (b .count-strings .ensures) (c .before .c .given .1)) in
     (sym (ap (each meta) e), sym (ap (afterScan _ _) e))
 
-same-length-2 : tie.Need-same-length-2
-same-length-2 c = search needs
-
 returns-2 : tie.Need-returns-2
 returns-2 c =
     let a = c .before .before in
     let b = a .before .before .before .before .before in
     let e = strings-counted (b .before .before .before .before .before .before .pre) (says counted (b .count-strings .ensures) (a .before .before .before .c2 .given .1)) in
-    (a .scan-tables .ensures .0 ∙ sym (ap (each meta) e), a .scan-tables .ensures .1 ∙ sym (ap (afterScan _ _) e))
+    (a .inline-tables .ensures .0 ∙ sym (ap (each meta) e), a .inline-tables .ensures .1 ∙ sym (ap (afterScan _ _) e))
 
 pub scan-strings-spec : {M : Type 1} → statement M
 scan-strings-spec =
     tie.close
     (tie.spec
     add-end
-    sub-count-strings
-    part-count-strings-start
+    (λ c. search needs)
+    (λ c. search needs)
     part-count-strings-end
-    count-strings-requires
-    enum-known-c
-    enum-known-c-2
-    scan-tables-requires
-    same-length
+    (λ c κs. search needs)
+    (λ c. search needs)
+    (λ c. search needs)
+    inline-tables-requires
+    (λ c. search needs)
     returns
-    same-length-2
+    (λ c. search needs)
     returns-2)

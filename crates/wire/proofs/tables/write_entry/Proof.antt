@@ -1,89 +1,17 @@
--- `write_entry` stores the entry's eight bytes one after the other.
-use native.Mathlib.Omega.{arith}
-use lib.ListN.{length-set}
-use lib.Seq.{sets-eq}
-use Rattle.protobuf.specs.Little.{bytes}
-use Rattle.wire.specs.Tables.{entry}
+-- `write_entry` writes the entry's two numbers, one behind the other.
 use borrow.Author.Needs.{needs}
+use native.Mathlib.Omega.{arith}
+use Rattle.wire.proofs.laws.Tables.{entry-written}
 use Rattle.wire.proofs.tables.write_entry.Statement.{statement}
 use Rattle.wire.proofs.tables.write_entry.Tie as tie
-
-cast-tail : tie.Need-cast-tail
-cast-tail c = search needs
-
-slice-write-tail : tie.Need-slice-write-tail
-slice-write-tail c = search needs
-
-cast-tail-2 : tie.Need-cast-tail-2
-cast-tail-2 c = search needs
-
-slice-write-tail-2 : tie.Need-slice-write-tail-2
-slice-write-tail-2 c = simp length-set (omega arith)
-
-cast-tail-3 : tie.Need-cast-tail-3
-cast-tail-3 c = search needs
-
-slice-write-tail-3 : tie.Need-slice-write-tail-3
-slice-write-tail-3 c = simp length-set (omega arith)
-
-cast-tail-4 : tie.Need-cast-tail-4
-cast-tail-4 c = search needs
-
-slice-write-tail-4 : tie.Need-slice-write-tail-4
-slice-write-tail-4 c = simp length-set (omega arith)
-
-cast-tail-5 : tie.Need-cast-tail-5
-cast-tail-5 c = search needs
-
-slice-write-tail-5 : tie.Need-slice-write-tail-5
-slice-write-tail-5 c = simp length-set (omega arith)
-
-cast-tail-6 : tie.Need-cast-tail-6
-cast-tail-6 c = search needs
-
-slice-write-tail-6 : tie.Need-slice-write-tail-6
-slice-write-tail-6 c = simp length-set (omega arith)
-
-cast-tail-7 : tie.Need-cast-tail-7
-cast-tail-7 c = search needs
-
-slice-write-tail-7 : tie.Need-slice-write-tail-7
-slice-write-tail-7 c = simp length-set (omega arith)
-
-cast-tail-8 : tie.Need-cast-tail-8
-cast-tail-8 c = search needs
-
-slice-write-tail-8 : tie.Need-slice-write-tail-8
-slice-write-tail-8 c = simp length-set (omega arith)
-
-same-length : tie.Need-same-length
-same-length c = search needs
-
-returns : tie.Need-returns
-unfolding bytes
-returns c =
-    let a = c .args in
-    sets-eq (entry (a .start) (a .len)) (a .tail .now) 0 (c .pre)
 
 pub write-entry-spec : {M : Type 1} → statement M
 write-entry-spec =
     tie.close
     (tie.spec
-    cast-tail
-    slice-write-tail
-    cast-tail-2
-    slice-write-tail-2
-    cast-tail-3
-    slice-write-tail-3
-    cast-tail-4
-    slice-write-tail-4
-    cast-tail-5
-    slice-write-tail-5
-    cast-tail-6
-    slice-write-tail-6
-    cast-tail-7
-    slice-write-tail-7
-    cast-tail-8
-    slice-write-tail-8
-    same-length
-    returns)
+    (λ c. search needs)
+    (λ c κs. search needs)
+    (λ c. search needs)
+    (λ c κs. search needs)
+    (λ c. search needs)
+    (λ c. entry-written _ _ _ (omega arith) (c .before .before .before .before .before .before .write-u32 .ensures) (c .before .before .write-u322 .ensures)))

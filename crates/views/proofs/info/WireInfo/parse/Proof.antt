@@ -1,70 +1,43 @@
--- `WireInfo::parse` tests the range, views the part and hands the record out.
+-- `WireInfo::parse` views the part and hands the record out, which does not tell where the message stands.
 use borrow.Author.Needs.{needs}
-use native.Mathlib.Omega.{arith}
 use mathlib.Core.Path.{ap, _∙_}
-use Rattle.protobuf.proofs.laws.Read.{says}
-use Rattle.views.specs.Outcome.{kept}
-use Rattle.views.specs.Schema.{info}
-use Rattle.views.specs.Info.{infoFields, infoOf, keptInfo}
-use Rattle.views.proofs.laws.Parse.{parse-outside, parse-refused, parse-kept}
+use Rattle.views.specs.declared.info.WireInfo.{WireInfo}
+use Rattle.fields.specs.Outcome.{kept, each}
+use Rattle.fields.specs.View.{Slots, viewIn}
+use Rattle.fields.specs.Schema.{info}
+use Rattle.views.specs.Info.{infoFields, infoOf}
+use Rattle.views.proofs.laws.Slots.{handed-refused, handed-kept}
+use Rattle.views.proofs.laws.Info.{info-moved}
 use Rattle.views.proofs.info.WireInfo.parse.Statement.{statement}
 use Rattle.views.proofs.info.WireInfo.parse.Tie as tie
 
-returns : tie.Need-returns
-returns c = parse-outside infoFields infoOf info _ _ _ (omega arith)
+abbrev infoBy : Slots → WireInfo
+infoBy slots = infoOf (infoFields slots)
 
-sub-if2 : tie.Need-sub-if2
-sub-if2 c = search needs
+returns : tie.Need-returns
+returns c =
+    let d = c .before .before .before .before in
+    let a = d .before .before .args in
+    handed-refused infoBy _ _ _ (d .read-view .ensures) (c .before .status .given .1)
+    ∙ ap (λ f. each f (viewIn info (a .buffer .now) (a .start) (a .len))) (info-moved _)
 
 returns-2 : tie.Need-returns-2
-returns-2 c = parse-outside infoFields infoOf info _ _ _ (omega arith)
-
-add-end : tie.Need-add-end
-add-end c = search needs
-
-sub-info-fields : tie.Need-sub-info-fields
-sub-info-fields c = search needs
-
-part-info-fields-start : tie.Need-part-info-fields-start
-part-info-fields-start c = search needs
-
-part-info-fields-end : tie.Need-part-info-fields-end
-part-info-fields-end c = search needs
-
-info-fields-requires : tie.Need-info-fields-requires
-info-fields-requires c κs = search needs
-
-enum-known-r : tie.Need-enum-known-r
-enum-known-r c = search needs
-
-enum-known-r-2 : tie.Need-enum-known-r-2
-enum-known-r-2 c = search needs
-
-info-of-requires : tie.Need-info-of-requires
-info-of-requires c κs = search needs
-
-returns-3 : tie.Need-returns-3
-returns-3 c = parse-refused infoFields infoOf info _ _ _ (omega arith) (says keptInfo (c .before .before .before .info-fields .ensures) (c .before .r .given .1))
-
-returns-4 : tie.Need-returns-4
-returns-4 c =
-    ap kept (c .info-of .ensures)
-    ∙ parse-kept infoFields infoOf info _ _ _ (omega arith) (says keptInfo (c .before .before .before .before .info-fields .ensures) (c .before .before .r2 .given .1))
+returns-2 c =
+    let b = c .before .before in
+    let d = b .before .before .before in
+    let a = d .before .before .args in
+    ap kept (c .info-of .ensures ∙ ap infoOf (c .before .info-fields .ensures))
+    ∙ handed-kept infoBy _ _ _ (d .read-view .ensures) (b .enum-told .given .1)
+    ∙ ap (λ f. each f (viewIn info (a .buffer .now) (a .start) (a .len))) (info-moved _)
 
 pub parse-spec : {M : Type 1} → statement M
 parse-spec =
     tie.close
     (tie.spec
+    (λ c κs. search needs)
+    (λ c. search needs)
+    (λ c. search needs)
+    (λ c κs. search needs)
+    (λ c κs. search needs)
     returns
-    sub-if2
-    returns-2
-    add-end
-    sub-info-fields
-    part-info-fields-start
-    part-info-fields-end
-    info-fields-requires
-    enum-known-r
-    enum-known-r-2
-    info-of-requires
-    returns-3
-    returns-4)
+    returns-2)

@@ -1,0 +1,102 @@
+-- Laws of numbers as 8 bytes each: numbers put one behind the other are all of them, and each is read back.
+use Prim.Native.Nat.{ℕ, zero, suc, _+_, _*_, _^_, _≤_, _<_}
+use mathlib.Core.Path.{_≡_, refl, sym, ap, _∙_}
+use mathlib.Core.List.{List, [], _∷_, _++_, append-assoc, append-nil}
+use native.Mathlib.Nat.{mod-eq-of-lt}
+use native.Mathlib.Numerals.{add-one}
+use native.Mathlib.Omega.{arith}
+use borrow.Author.Tests.{le-leb, lt-leb}
+use lib.ListN.{length, take, drop, getD, length-append, take-append-drop}
+use lib.Seq.{take-at, drop-at, drop-drop, take-suc, take-all, length-take-le}
+use Rattle.numbers.specs.Little.{little, bytes, numberAt, written, writtenAt}
+use Rattle.numbers.proofs.laws.Little.{bytes-length, little-bytes, number-inside, writes-inside, written-none, written-length, written-twice}
+use Rattle.answers.specs.Words.{words, filled}
+
+pub words-length : (ws : List ℕ) → length (words ws) ≡ 8 * length ws
+unfolding words
+words-length [] = refl
+words-length (w ∷ ws) = simp (length-append, bytes-length) (omega (arith, words-length ws))
+
+words-append : (ws more : List ℕ) → words (ws ++ more) ≡ words ws ++ words more
+unfolding words
+words-append [] more = refl
+words-append (w ∷ ws) more = ap (λ (l : List ℕ). bytes 8 w ++ l) (words-append ws more) ∙ sym (append-assoc (bytes 8 w) (words ws) (words more))
+
+one-word : (v : ℕ) → bytes 8 v ≡ words (v ∷ [])
+unfolding words
+one-word v = sym (append-nil (bytes 8 v))
+
+-- ---- putting one number after the other
+
+-- t is s with the first i of the numbers ws, for all of which there is room
+pub record Putting (s ws : List ℕ) (i : ℕ) (t : List ℕ) : Type 0 where
+  pub room : 8 * length ws ≤ length s
+  pub within : i ≤ length ws
+  pub is : t ≡ written s 0 (words (take i ws))
+
+module _ {s ws : List ℕ} where
+  pub put-none : 8 * length ws ≤ length s → Putting s ws 0 s
+  unfolding words
+  put-none h = record { room = h; within = omega arith; is = sym (written-none s 0 (omega arith)) }
+
+  first-length : {i : ℕ} {t : List ℕ} → Putting s ws i t → length (words (take i ws)) ≡ 8 * i
+  first-length {i} p = words-length (take i ws) ∙ ap (λ (n : ℕ). 8 * n) (length-take-le i ws (p .within))
+
+  pub put-length : {i : ℕ} {t : List ℕ} → Putting s ws i t → length t ≡ length s
+  put-length {i} p = ap length (p .is) ∙ written-length s 0 (words (take i ws)) (omega (arith, p .room, p .within, first-length p))
+
+  pub put-one : {i : ℕ} {t u : List ℕ} → Putting s ws i t → i < length ws → u ≡ writtenAt 8 t (8 * i) (getD ws i 0) → Putting s ws (i + 1) u
+  put-one {i} {t} p h e =
+      let first = words (take i ws) in
+      let next = bytes 8 (getD ws i 0) in
+      let size = first-length p in
+      let place : 8 * i ≡ 0 + length first = omega (arith, size) in
+      let room : 0 + length first + length next ≤ length s = omega (arith, p .room, size, bytes-length 8 (getD ws i 0)) in
+      let both : first ++ next ≡ words (take (i + 1) ws) = ap (λ (l : List ℕ). first ++ l) (one-word (getD ws i 0)) ∙ sym (words-append (take i ws) (getD ws i 0 ∷ [])) ∙ ap words (sym (rw add-one (take-suc ws i 0 h))) in
+      record {
+        room = p .room;
+        within = omega arith;
+        is =
+            e
+            ∙ writes-inside 8 t (8 * i) (getD ws i 0) (omega (arith, p .room, put-length p))
+            ∙ (λ j. written (p .is j) (place j) next)
+            ∙ written-twice s 0 first next room
+            ∙ ap (written s 0) both;
+      }
+
+  pub put-all : {i : ℕ} {t : List ℕ} → Putting s ws i t → length ws ≤ i → t ≡ filled s ws
+  put-all {i} p h = rw (le-leb (8 * length ws) (length s) (p .room)) (p .is ∙ ap (λ (l : List ℕ). written s 0 (words l)) (take-all i ws h))
+
+pub put-short : (s ws : List ℕ) → length s < 8 * length ws → s ≡ filled s ws
+put-short s ws h = rw (lt-leb (8 * length ws) (length s) h)
+
+-- ---- read back
+
+word-within : (ws rest : List ℕ) (i : ℕ) → i < length ws → getD ws i 0 < 2 ^ 64 → little (take 8 (drop (8 * i) (words ws ++ rest))) ≡ getD ws i 0
+unfolding words
+word-within [] rest i h k = absurd (omega arith)
+word-within (w ∷ ws) rest zero h k =
+    ap (λ (l : List ℕ). little (take 8 l)) (append-assoc (bytes 8 w) (words ws) rest)
+    ∙ ap little (take-at (bytes 8 w) (words ws ++ rest) 8 (bytes-length 8 w))
+    ∙ little-bytes 8 w
+    ∙ mod-eq-of-lt k
+word-within (w ∷ ws) rest (suc i) h k =
+    let all = (bytes 8 w ++ words ws) ++ rest in
+    let next : 8 * suc i ≡ 8 + 8 * i = omega arith in
+    let behind : drop 8 all ≡ words ws ++ rest =
+    ap (drop 8) (append-assoc (bytes 8 w) (words ws) rest) ∙ drop-at (bytes 8 w) (words ws ++ rest) 8 (bytes-length 8 w) in
+    ap (λ (n : ℕ). little (take 8 (drop n all))) next
+    ∙ ap (λ (l : List ℕ). little (take 8 l)) (sym (drop-drop (8 * i) 8 all) ∙ ap (drop (8 * i)) behind)
+    ∙ word-within ws rest i (omega arith) k
+
+-- each number that was put is read back
+pub word-back : (s ws : List ℕ) (i : ℕ) → 8 * length ws ≤ length s → i < length ws → getD ws i 0 < 2 ^ 64 → numberAt 8 (written s 0 (words ws)) (8 * i) ≡ getD ws i 0
+word-back s ws i room h k =
+    number-inside 8 (written s 0 (words ws)) (8 * i) (omega (arith, written-length s 0 (words ws) (omega (arith, words-length ws)), words-length ws))
+    ∙ word-within ws (drop (0 + length (words ws)) s) i h k
+
+-- putting the numbers that a slice begins with changes nothing
+pub same-written : (s ws : List ℕ) → take (8 * length ws) s ≡ words ws → s ≡ written s 0 (words ws)
+same-written s ws e =
+    let size : 8 * length ws ≡ 0 + length (words ws) = omega (arith, words-length ws) in
+    sym (take-append-drop (8 * length ws) s) ∙ (λ i. e i ++ drop (size i) s)

@@ -1,0 +1,8 @@
+-- How numbers, records, answers and states pass through C.
+pub mod Words
+pub mod Codes
+pub mod Record
+pub mod Views
+pub mod Group
+pub mod Messages
+pub mod Worked

@@ -1,0 +1,3 @@
+-- One file of laws for each file of definitions.
+pub mod Classify
+pub mod Group

@@ -1,0 +1,108 @@
+-- What a scan through C leaves for the other entries: the record in the slice is read back, so that strings and groups are the block's own;
+-- and which refusal its code 13 is.
+use Prim.Native.Nat.{ℕ, _+_, _*_, _^_, _≤_, _<_}
+use mathlib.Core.Path.{_≡_, refl, sym, ap, _∙_, subst}
+use mathlib.Core.List.{List}
+use native.Mathlib.Omega.{arith}
+use lib.ListN.{length, take, length-take}
+use lib.Dec.{leb}
+use Rattle.numbers.specs.Choose.{choose}
+use Rattle.numbers.proofs.laws.Little.{written-length}
+use Rattle.numbers.proofs.laws.Signed.{twos-in-range}
+use Rattle.protobuf.specs.declared.refusal.Refusal.{Refusal}
+use Rattle.protobuf.specs.declared.refusal.Refusal.the-variants.{BlockTooLong, VarintCut, VarintLong, TagValue, WireType, PastEnd, GroupDepth, Granularity, SecondColumn, SecondInfo, SecondDense, Counts, NoRoom, Outside}
+use Rattle.protobuf.specs.Refusal.{number}
+use Rattle.fields.specs.declared.part.Part.{Part}
+use Rattle.fields.specs.Outcome.{Outcome, kept, onward}
+use Rattle.wire.specs.declared.record.WireBlock.{WireBlock}
+use Rattle.wire.specs.declared.lookup.Got.{Got}
+use Rattle.wire.specs.Scan.{Scanned, Scanned-as}
+use Rattle.wire.specs.Lookup.{getAt, groupAt, stringOf, groupOf}
+use Rattle.wire.proofs.laws.Scan.{Kept, scan-kept, total}
+use Rattle.wire.proofs.laws.Scanned.{scanned-get, scanned-group}
+use Rattle.answers.specs.Record.{recordWords, recordIn}
+use Rattle.answers.specs.Group.{rangeWords}
+use Rattle.answers.specs.Codes.{answerCode, answerAfter}
+use Rattle.answers.proofs.laws.Words.{words-length, same-written}
+use Rattle.answers.proofs.laws.Codes.{Answered}
+use Rattle.answers.proofs.laws.Record.{Held, record-back}
+use Rattle.nuorpyts.specs.Block.{Scanned-in, gotBy, getIn, gotCode, gotAfter, rangeOf, groupIn}
+use Rattle.nuorpyts.proofs.laws.Block.{GotAnswered}
+
+-- the machine holds a scan's numbers where it holds the buffer
+scan-held : {b : List ℕ} {n : ℕ} {x : Scanned} → Kept b n x → length b < 2 ^ 64 → Held (x .block)
+scan-held {b} {n} k h =
+    let room : n + 8 * (k .strings + k .top .groups) ≤ length b = omega (arith, k .room, total (k .read)) in
+    subst (λ (y : Scanned). Held (y .block)) (sym (k .is))
+    (record {
+      block = omega arith;
+      strings = omega arith;
+      stringtable = omega arith;
+      groups = omega arith;
+      grouptable = omega arith;
+      granularity = twos-in-range 32 (k .top .granularity);
+      dategranularity = twos-in-range 32 (k .top .dategranularity);
+      latoffset = twos-in-range 64 (k .top .latoffset);
+      lonoffset = twos-in-range 64 (k .top .lonoffset);
+    })
+
+pub scan-read : {s rec b : List ℕ} {n : ℕ} → length s < 2 ^ 64 → (h : Scanned-in s rec b n) → recordIn rec ≡ kept (h .scan .block)
+scan-read {s} {rec} {b} {n} fits h =
+    let x = h .scan in
+    let ws = recordWords (x .block) in
+    let k = scan-kept b n (h .so) in
+    let room : n + length (x .table) ≤ length b = omega (arith, k .room, ap (λ (y : Scanned). length (y .table)) (k .is)) in
+    let same : length s ≡ length b = ap length (h .buffer) ∙ written-length b n (x .table) room in
+    let long : 72 ≤ length rec = omega (arith, length-take 72 rec, ap length (h .numbers), words-length ws) in
+    ap recordIn (same-written rec ws (h .numbers)) ∙ record-back rec (x .block) long (scan-held k (omega arith))
+
+-- ---- strings and groups by number
+
+module _ {s rec : List ℕ} (fits : length s < 2 ^ 64) {b : List ℕ} {n : ℕ} (h : Scanned-in s rec b n) where
+  as-scanned : Scanned-as s (h .scan .block) b n
+  as-scanned = record { scan = h .scan; so = h .so; buffer = h .buffer; meta = refl }
+
+  own-string : (index : ℕ) → getIn s rec index ≡ stringOf (take n b) index
+  own-string index = ap (λ (x : Outcome WireBlock). gotBy x λ r. getAt s r index) (scan-read fits h) ∙ scanned-get as-scanned index
+
+  own-group : (index : ℕ) → groupIn s rec index ≡ rangeOf (groupOf (take n b) index)
+  unfolding onward
+  own-group index =
+      ap (λ (x : Outcome WireBlock). onward x λ r. rangeOf (groupAt s r index)) (scan-read fits h) ∙ ap rangeOf (scanned-group as-scanned index)
+
+-- all clauses of an entry's contract, by the two of code and bytes
+module _ (s rec out : List ℕ) (index : ℕ) where
+  abbrev pub GetClauses : ℕ → List ℕ → Type 0
+  GetClauses code after =
+      let x = getIn s rec index in
+      (code ≡ choose (leb 16 (length out)) (gotCode x) 14) × ((after ≡ gotAfter out x) × ((b : List ℕ) (n : ℕ) → Scanned-in s rec b n → GotAnswered out code after (stringOf (take n b) index)))
+
+  pub get-clauses : length s < 2 ^ 64 → {code : ℕ} {after : List ℕ} → GotAnswered out code after (getIn s rec index) → GetClauses code after
+  get-clauses fits {code} {after} e = (e .0, (e .1, λ b n h. subst (λ (x : Got). GotAnswered out code after x) (own-string fits h index) e))
+
+  abbrev pub GroupClauses : ℕ → List ℕ → Type 0
+  GroupClauses code after =
+      let x = groupIn s rec index in
+      (code ≡ answerCode 2 out x) × ((after ≡ answerAfter rangeWords out x) × ((b : List ℕ) (n : ℕ) → Scanned-in s rec b n → Answered 2 rangeWords out code after (rangeOf (groupOf (take n b) index))))
+
+  pub group-clauses : length s < 2 ^ 64 → {code : ℕ} {after : List ℕ} → Answered 2 rangeWords out code after (groupIn s rec index) → GroupClauses code after
+  group-clauses fits {code} {after} e = (e .0, (e .1, λ b n h. subst (λ (x : Outcome Part). Answered 2 rangeWords out code after x) (own-group fits h index) e))
+
+-- ---- 13
+
+-- one refusal alone has this number
+pub thirteen : (r : Refusal) → number r ≡ 13 → r ≡ NoRoom
+thirteen BlockTooLong e = absurd (omega arith)
+thirteen VarintCut e = absurd (omega arith)
+thirteen VarintLong e = absurd (omega arith)
+thirteen TagValue e = absurd (omega arith)
+thirteen WireType e = absurd (omega arith)
+thirteen PastEnd e = absurd (omega arith)
+thirteen GroupDepth e = absurd (omega arith)
+thirteen Granularity e = absurd (omega arith)
+thirteen SecondColumn e = absurd (omega arith)
+thirteen SecondInfo e = absurd (omega arith)
+thirteen SecondDense e = absurd (omega arith)
+thirteen Counts e = absurd (omega arith)
+thirteen NoRoom e = refl
+thirteen Outside e = absurd (omega arith)

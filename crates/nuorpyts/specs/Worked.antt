@@ -1,0 +1,120 @@
+-- Worked values: what the definitions here say of concrete bytes. They are proved by computing, so a definition that is changed breaks a row,
+-- whatever the code does. Bytes are hexadecimal.
+use Prim.Native.Nat.{ℕ}
+use mathlib.Core.Path.{_≡_, refl}
+use mathlib.Core.List.{List, [], _∷_, _++_}
+use lib.ListN.{take, replicate}
+use Rattle.protobuf.specs.declared.refusal.Refusal.the-variants.{Outside}
+use Rattle.protobuf.specs.Read.{andThen}
+use Rattle.numbers.specs.Little.{little, bytes, numberAt}
+use Rattle.numbers.specs.Signed.{signed, twos}
+use Rattle.protobuf.specs.Varint.{digits, varint}
+use Rattle.protobuf.specs.Tag.{legal, tag, tagAt}
+use Rattle.protobuf.specs.Payload.{rawVarint, fixed, counted, lengthDelimited, valueBy, fieldIn, fieldsOf, groupBy, payload}
+use Rattle.protobuf.specs.Stream.{unrolled}
+use Rattle.protobuf.specs.Message.{fieldAt, messageFrom}
+use Rattle.fields.specs.Outcome.{kept, refused, onward, each}
+use Rattle.fields.specs.Part.{partBy}
+use Rattle.fields.specs.Parts.{partsOf, messagesOf}
+use Rattle.fields.specs.View.{columnPart, infoPart, put, store, viewFrom, view}
+use Rattle.wire.specs.declared.lookup.Got.the-variants as got
+use Rattle.wire.specs.Tables.{entries}
+use Rattle.wire.specs.Scan.{tablesStage, stringsStage, fieldsStage, scanned}
+use Rattle.wire.specs.Lookup.{getAt, groupAt}
+use Rattle.groups.specs.declared.classify.BlockType.the-variants.{Empty, Nodes, DenseNodes}
+use Rattle.groups.specs.Classify.{blockType}
+use Rattle.groups.specs.Group.{denseFrom}
+use Rattle.block.specs.Check.{all, checkGroup}
+use Rattle.accept.specs.Accept.{partsAt, checkedIn}
+use Rattle.answers.specs.Words.{words}
+use Rattle.answers.specs.Record.{recordIn}
+use Rattle.nuorpyts.specs.Block.{scanAfter, getIn, gotCode, gotAfter, groupIn}
+use Rattle.nuorpyts.specs.Group.{kindIn}
+use Rattle.nuorpyts.specs.Check.{checkCode}
+
+-- a slice of n bytes that nothing was written to
+abbrev blank : ℕ → List ℕ
+blank n = replicate n 0xEE
+
+-- ---- a record's slice, by the block's length, the string count, the group count and where their tables begin
+
+abbrev recordBytes : ℕ → ℕ → ℕ → ℕ → ℕ → List ℕ
+recordBytes block strings stringtable groups grouptable =
+    words (block ∷ strings ∷ stringtable ∷ groups ∷ grouptable ∷ 100 ∷ 1000 ∷ 0 ∷ 0 ∷ [])
+
+-- a table's entry
+abbrev entry : ℕ → ℕ → List ℕ
+entry start len = bytes 4 start ++ bytes 4 len
+
+-- four bytes; then two strings, of which the second passes the buffer, and two groups, of which the second does
+abbrev buffer : List ℕ
+buffer = 0x0A ∷ 0x01 ∷ 0x12 ∷ 0x00 ∷ (entry 1 2 ++ (entry 3 34 ++ (entry 0 3 ++ entry 36 1)))
+
+abbrev rec : List ℕ
+rec = recordBytes 4 2 4 2 20
+
+pub record Worked : Type 0 where
+  -- a scan writes the tables right behind the block, where there is room for the record
+  pub scan-tables : scanAfter (0x12 ∷ 0x00 ∷ blank 9) 2 (blank 72) ≡ 0x12 ∷ 0x00 ∷ (entry 2 0 ++ blank 1)
+  pub scan-no-tables : scanAfter (0x12 ∷ 0x00 ∷ blank 7) 2 (blank 72) ≡ 0x12 ∷ 0x00 ∷ blank 7
+  pub scan-no-room : scanAfter (0x12 ∷ 0x00 ∷ blank 9) 2 (blank 71) ≡ 0x12 ∷ 0x00 ∷ blank 9
+  -- strings and groups by number, through the record in a slice
+  pub get-text : getIn buffer rec 0 ≡ got.Text (partBy 1 2)
+  pub get-outside : getIn buffer rec 1 ≡ got.Refused Outside
+  pub get-none : getIn buffer rec 2 ≡ got.None
+  pub get-no-record : getIn buffer (take 71 rec) 0 ≡ got.Refused Outside
+  pub get-no-record-first : getIn buffer (take 71 rec) 2 ≡ got.Refused Outside
+  pub got-text : gotCode (got.Text (partBy 1 2)) ≡ 0
+  pub got-none : gotCode got.None ≡ 100
+  pub got-outside : gotCode (got.Refused Outside) ≡ 14
+  pub after-text : gotAfter (blank 17) (got.Text (partBy 1 2)) ≡ words (1 ∷ 2 ∷ []) ++ blank 1
+  pub after-text-short : gotAfter (blank 15) (got.Text (partBy 1 2)) ≡ blank 15
+  pub after-none : gotAfter (blank 17) got.None ≡ blank 17
+  pub after-outside : gotAfter (blank 17) (got.Refused Outside) ≡ blank 17
+  pub group-range : groupIn buffer rec 0 ≡ kept (partBy 0 3)
+  pub group-outside : groupIn buffer rec 1 ≡ refused Outside
+  pub group-at-count : groupIn buffer rec 2 ≡ refused Outside
+  pub group-no-record : groupIn buffer (take 71 rec) 0 ≡ refused Outside
+  -- the kind of the group in a range, which may end where the buffer does
+  pub kind-of-range : kindIn buffer 2 2 ≡ kept DenseNodes
+  pub kind-at-start : kindIn buffer 0 1 ≡ kept Nodes
+  pub kind-at-end : kindIn (0x0A ∷ []) 1 0 ≡ kept Empty
+  pub kind-outside : kindIn (0x0A ∷ []) 1 1 ≡ refused Outside
+  -- the check, through the record in a slice
+  pub check-accepts : checkCode [] (recordBytes 0 0 0 0 0) ≡ 0
+  pub check-refuses : checkCode (0x12 ∷ 0x04 ∷ 0x12 ∷ 0x00 ∷ 0x12 ∷ 0x00 ∷ entry 2 4) (recordBytes 6 0 6 1 6) ≡ 11
+  pub check-outside : checkCode [] (recordBytes 1 0 0 0 0) ≡ 14
+  pub check-no-record : checkCode [] (take 71 (recordBytes 0 0 0 0 0)) ≡ 14
+
+pub worked : Worked
+unfolding little bytes numberAt columnPart infoPart put store viewFrom view entries tablesStage stringsStage fieldsStage scanned signed twos andThen digits varint legal tag tagAt rawVarint fixed counted lengthDelimited valueBy fieldIn fieldsOf groupBy payload unrolled fieldAt messageFrom onward each partsOf messagesOf getAt groupAt blockType denseFrom all checkGroup partsAt checkedIn words recordIn kindIn
+worked =
+    record {
+      scan-tables = refl;
+      scan-no-tables = refl;
+      scan-no-room = refl;
+      get-text = refl;
+      get-outside = refl;
+      get-none = refl;
+      get-no-record = refl;
+      get-no-record-first = refl;
+      got-text = refl;
+      got-none = refl;
+      got-outside = refl;
+      after-text = refl;
+      after-text-short = refl;
+      after-none = refl;
+      after-outside = refl;
+      group-range = refl;
+      group-outside = refl;
+      group-at-count = refl;
+      group-no-record = refl;
+      kind-of-range = refl;
+      kind-at-start = refl;
+      kind-at-end = refl;
+      kind-outside = refl;
+      check-accepts = refl;
+      check-refuses = refl;
+      check-outside = refl;
+      check-no-record = refl;
+    }

@@ -1,0 +1,23 @@
+-- `relation_of` is `relationOf`, field by field.
+use borrow.Author.Needs.{needs}
+use mir.Syntax.{w64}
+use Rattle.numbers.proofs.laws.Machine.{returned}
+use Rattle.views.proofs.relation.relation_of.Statement.{statement}
+use Rattle.views.proofs.relation.relation_of.Tie as tie
+
+returns : tie.Need-returns
+returns c = rw (returned w64 (c .int64 .ok) (c .int64 .ensures))
+
+pub relation-of-spec : {M : Type 1} → statement M
+relation-of-spec =
+    tie.close
+    (tie.spec
+    (λ c. search needs)
+    (λ c. search needs)
+    (λ c. search needs)
+    (λ c. search needs)
+    (λ c. search needs)
+    (λ c. search needs)
+    (λ c. search needs)
+    (λ c κs. search needs)
+    returns)
