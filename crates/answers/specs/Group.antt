@@ -15,6 +15,11 @@ use Rattle.groups.specs.declared.group.WireMessageIter.{WireMessageIter}
 use Rattle.groups.specs.declared.group.WireMessageIter.the-variants as iter
 use Rattle.answers.specs.declared.group.MessagesIn.{MessagesIn}
 use Rattle.answers.specs.declared.group.MessagesIn.the-variants as read
+use Rattle.answers.specs.Words.{flag}
+
+-- a part is three numbers: whether it is present, its start and its length
+abbrev pub partWords : Part → List ℕ
+partWords p = flag (p .present) ∷ p .start ∷ p .len ∷ []
 
 abbrev pub rangeWords : Part → List ℕ
 rangeWords p = p .start ∷ p .len ∷ []

@@ -2,7 +2,6 @@
 pub mod Words
 pub mod Codes
 pub mod Record
-pub mod Views
 pub mod Group
 pub mod Messages
 pub mod Worked

@@ -19,7 +19,7 @@ use Rattle.answers.specs.declared.group.MessagesIn.{MessagesIn}
 use Rattle.answers.specs.declared.group.MessagesIn.the-variants as slot
 use Rattle.answers.specs.Words.{filled}
 use Rattle.answers.specs.Codes.{endedCode}
-use Rattle.answers.specs.Views.{partWords}
+use Rattle.answers.specs.Group.{partWords}
 use Rattle.answers.specs.Group.{iterWords, messagesIn}
 
 -- from a place: 14 where the answer's slice is too short for a part

@@ -1,7 +1,6 @@
 -- Worked values: what the definitions here say of concrete values and bytes, with all fields different. They are proved by computing, so a
 -- definition that is changed breaks a row, whatever the code does. Bytes are hexadecimal.
 use Prim.Native.Nat.{ℕ, _-_, _^_}
-use mathlib.Core.Bool.{true, false}
 use mathlib.Core.Path.{_≡_, refl}
 use mathlib.Core.List.{List, [], _∷_, _++_}
 use lib.ListN.{take, replicate}
@@ -16,7 +15,6 @@ use Rattle.protobuf.specs.Payload.{rawVarint, fixed, counted, lengthDelimited, 
 use Rattle.protobuf.specs.Stream.{unrolled}
 use Rattle.protobuf.specs.Message.{fieldAt, messageFrom}
 use Rattle.fields.specs.declared.part.Part.{Part}
-use Rattle.views.specs.declared.info.WireInfo.{WireInfo}
 use Rattle.fields.specs.Outcome.{kept, refused}
 use Rattle.fields.specs.Part.{partBy, noPart}
 use Rattle.wire.specs.declared.record.WireBlock.{WireBlock}
@@ -28,8 +26,7 @@ use Rattle.answers.specs.declared.group.MessagesIn.the-variants as slot
 use Rattle.answers.specs.Words.{words, filled, signedWord}
 use Rattle.answers.specs.Codes.{noneCode, endedCode, codeOf, answerCode, answerAfter}
 use Rattle.answers.specs.Record.{recordWords, recordIn}
-use Rattle.answers.specs.Views.{partWords, nodeWords, wayWords, relationWords, denseNodesWords, denseInfoWords, infoWords}
-use Rattle.answers.specs.Group.{rangeWords, kindWords, iterWords, messagesIn}
+use Rattle.answers.specs.Group.{partWords, rangeWords, kindWords, iterWords, messagesIn}
 use Rattle.answers.specs.Messages.{messageAsked, messageCode, messageOut, messageState}
 
 -- a slice of n bytes that nothing was written to
@@ -60,30 +57,6 @@ blockBy granularity dategranularity =
 abbrev blockBytes : ℕ → ℕ → List ℕ
 blockBytes granularity dategranularity =
     words (1 ∷ 2 ∷ 3 ∷ 4 ∷ 5 ∷ granularity ∷ dategranularity ∷ minus 8 ∷ 9 ∷ [])
-
--- ---- an Info with all six, and one with none
-
-abbrev fullInfo : WireInfo
-fullInfo =
-    record {
-      version = record { present = true; value = negsuc 1 };
-      timestamp = record { present = true; value = pos 3 };
-      changeset = record { present = true; value = negsuc 3 };
-      uid = record { present = true; value = pos 5 };
-      user = record { present = true; value = negsuc 5 };
-      visible = record { present = true; value = true };
-    }
-
-abbrev noInfo : WireInfo
-noInfo =
-    record {
-      version = record { present = false; value = pos 0 };
-      timestamp = record { present = false; value = pos 0 };
-      changeset = record { present = false; value = pos 0 };
-      uid = record { present = false; value = pos 0 };
-      user = record { present = false; value = pos 0 };
-      visible = record { present = false; value = false };
-    }
 
 -- ---- states
 
@@ -142,14 +115,6 @@ pub record Worked : Type 0 where
   -- a part, and the numbers of each view
   pub part-present : partWords (partBy 5 6) ≡ 1 ∷ 5 ∷ 6 ∷ []
   pub part-absent : partWords noPart ≡ 0 ∷ 0 ∷ 0 ∷ []
-  pub node-numbers : nodeWords (record { id = negsuc 0; lat = pos 2; lon = negsuc 2; keys = partBy 4 5; vals = noPart; info = partBy 6 7 }) ≡ minus 1 ∷ 2 ∷ minus 3 ∷ 1 ∷ 4 ∷ 5 ∷ 0 ∷ 0 ∷ 0 ∷ 1 ∷ 6 ∷ 7 ∷ []
-  pub way-numbers : wayWords (record { id = negsuc 0; keys = partBy 2 3; vals = partBy 4 5; info = noPart; refs = partBy 6 7; lat = partBy 8 9; lon = partBy 10 11; pins = partBy 12 13 }) ≡ minus 1 ∷ 1 ∷ 2 ∷ 3 ∷ 1 ∷ 4 ∷ 5 ∷ 0 ∷ 0 ∷ 0 ∷ 1 ∷ 6 ∷ 7 ∷ 1 ∷ 8 ∷ 9 ∷ 1 ∷ 10 ∷ 11 ∷ 1 ∷ 12 ∷ 13 ∷ []
-  pub relation-numbers : relationWords (record { id = negsuc 0; keys = partBy 2 3; vals = partBy 4 5; info = noPart; roles = partBy 6 7; memids = partBy 8 9; types = partBy 10 11 }) ≡ minus 1 ∷ 1 ∷ 2 ∷ 3 ∷ 1 ∷ 4 ∷ 5 ∷ 0 ∷ 0 ∷ 0 ∷ 1 ∷ 6 ∷ 7 ∷ 1 ∷ 8 ∷ 9 ∷ 1 ∷ 10 ∷ 11 ∷ []
-  pub dense-nodes-numbers : denseNodesWords (record { id = partBy 1 2; info = noPart; lat = partBy 3 4; lon = partBy 5 6; keyvals = partBy 7 8 }) ≡ 1 ∷ 1 ∷ 2 ∷ 0 ∷ 0 ∷ 0 ∷ 1 ∷ 3 ∷ 4 ∷ 1 ∷ 5 ∷ 6 ∷ 1 ∷ 7 ∷ 8 ∷ []
-  pub dense-info-numbers : denseInfoWords (record { version = partBy 1 2; timestamp = partBy 3 4; changeset = partBy 5 6; uid = partBy 7 8; user = partBy 9 10; visible = noPart }) ≡ 1 ∷ 1 ∷ 2 ∷ 1 ∷ 3 ∷ 4 ∷ 1 ∷ 5 ∷ 6 ∷ 1 ∷ 7 ∷ 8 ∷ 1 ∷ 9 ∷ 10 ∷ 0 ∷ 0 ∷ 0 ∷ []
-  pub info-numbers : infoWords fullInfo ≡ 1 ∷ minus 2 ∷ 1 ∷ 3 ∷ 1 ∷ minus 4 ∷ 1 ∷ 5 ∷ 1 ∷ minus 6 ∷ 1 ∷ 1 ∷ []
-  pub info-absent : infoWords noInfo ≡ 0 ∷ 0 ∷ 0 ∷ 0 ∷ 0 ∷ 0 ∷ 0 ∷ 0 ∷ 0 ∷ 0 ∷ 0 ∷ 0 ∷ []
-  pub info-not-visible : infoWords (record { version = noInfo .version; timestamp = noInfo .timestamp; changeset = noInfo .changeset; uid = noInfo .uid; user = noInfo .user; visible = record { present = true; value = false } }) ≡ 0 ∷ 0 ∷ 0 ∷ 0 ∷ 0 ∷ 0 ∷ 0 ∷ 0 ∷ 0 ∷ 0 ∷ 1 ∷ 0 ∷ []
   -- a range, and the kinds of groups
   pub range-numbers : rangeWords (partBy 5 6) ≡ 5 ∷ 6 ∷ []
   pub kind-empty : kindWords Empty ≡ 0 ∷ []
@@ -222,14 +187,6 @@ worked =
       dategranularity-small = refl;
       part-present = refl;
       part-absent = refl;
-      node-numbers = refl;
-      way-numbers = refl;
-      relation-numbers = refl;
-      dense-nodes-numbers = refl;
-      dense-info-numbers = refl;
-      info-numbers = refl;
-      info-absent = refl;
-      info-not-visible = refl;
       range-numbers = refl;
       kind-empty = refl;
       kind-nodes = refl;

@@ -1,7 +1,7 @@
-// What is read of a group: its range, its kind, and the state of an iteration over its messages.
+// What is read of a group: its range, a part of it, its kind, and the state of an iteration over its messages.
 ghost use mathlib.Core.Path.{_≡_};
 ghost use Rattle.answers.specs.Words.{filled};
-ghost use Rattle.answers.specs.Group.{rangeWords, kindNumber, iterWords, messagesIn};
+ghost use Rattle.answers.specs.Group.{rangeWords, partWords, kindNumber, iterWords, messagesIn};
 use crate::words::put_numbers;
 use fields::part::Part;
 use groups::classify::BlockType;
@@ -31,6 +31,13 @@ pub fn range_numbers(part: Part) -> [u64; 2]
     ensures { λ r. ⌜ r ≡ rangeWords part ⌝ }
 {
     [part.start as u64, part.len as u64]
+}
+
+// A part's numbers.
+pub fn part_numbers(part: Part) -> [u64; 3]
+    ensures { λ r. ⌜ r ≡ partWords part ⌝ }
+{
+    [part.present as u64, part.start as u64, part.len as u64]
 }
 
 // The number of a group's kind.

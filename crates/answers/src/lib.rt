@@ -3,7 +3,6 @@
 // steps on the state in a slot.
 pub mod codes;
 pub mod group;
-pub mod messages;
 pub mod record;
 pub mod step;
 pub mod words;

@@ -5,7 +5,7 @@ use numbers::little::write_u64;
 use numbers::signed::bits_i64;
 
 // A signed number of 32 bits, as its two's complement at 64.
-pub(crate) fn bits_i32(x: i32) -> u64
+pub fn bits_i32(x: i32) -> u64
     ensures { λ r. ⌜ r ≡ signedWord x ⌝ }
 {
     bits_i64(x as i64)

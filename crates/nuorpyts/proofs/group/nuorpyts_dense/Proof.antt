@@ -5,7 +5,7 @@ use mathlib.Core.Path.{refl}
 use Rattle.protobuf.proofs.laws.Read.{says}
 use Rattle.fields.specs.Outcome.{each}
 use Rattle.groups.specs.Group.{foundDense}
-use Rattle.answers.specs.Views.{partWords}
+use Rattle.answers.specs.Group.{partWords}
 use Rattle.answers.proofs.laws.Codes.{answer-short, answer-refused, answer-kept}
 use Rattle.nuorpyts.proofs.group.nuorpyts_dense.Statement.{statement}
 use Rattle.nuorpyts.proofs.group.nuorpyts_dense.Tie as tie

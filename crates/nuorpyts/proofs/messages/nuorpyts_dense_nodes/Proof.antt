@@ -5,7 +5,7 @@ use mathlib.Core.Path.{refl}
 use Rattle.protobuf.proofs.laws.Read.{says}
 use Rattle.fields.specs.Outcome.{each}
 use Rattle.views.specs.DenseNodes.{parsedDenseNodes}
-use Rattle.answers.specs.Views.{denseNodesWords}
+use Rattle.layouts.specs.Views.{denseNodesWords}
 use Rattle.answers.proofs.laws.Codes.{answer-short, answer-refused, answer-kept}
 use Rattle.nuorpyts.proofs.messages.nuorpyts_dense_nodes.Statement.{statement}
 use Rattle.nuorpyts.proofs.messages.nuorpyts_dense_nodes.Tie as tie

@@ -5,7 +5,7 @@ use mathlib.Core.Path.{refl}
 use Rattle.protobuf.proofs.laws.Read.{says}
 use Rattle.fields.specs.Outcome.{each}
 use Rattle.views.specs.Info.{parsedInfo}
-use Rattle.answers.specs.Views.{infoWords}
+use Rattle.layouts.specs.Views.{infoWords}
 use Rattle.answers.proofs.laws.Codes.{answer-short, answer-refused, answer-kept}
 use Rattle.nuorpyts.proofs.messages.nuorpyts_info.Statement.{statement}
 use Rattle.nuorpyts.proofs.messages.nuorpyts_info.Tie as tie

@@ -5,7 +5,7 @@ use mathlib.Core.Path.{refl}
 use Rattle.protobuf.proofs.laws.Read.{says}
 use Rattle.fields.specs.Outcome.{each}
 use Rattle.views.specs.Node.{parsedNode}
-use Rattle.answers.specs.Views.{nodeWords}
+use Rattle.layouts.specs.Views.{nodeWords}
 use Rattle.answers.proofs.laws.Codes.{answer-short, answer-refused, answer-kept}
 use Rattle.nuorpyts.proofs.messages.nuorpyts_node.Statement.{statement}
 use Rattle.nuorpyts.proofs.messages.nuorpyts_node.Tie as tie

@@ -5,7 +5,7 @@ use mathlib.Core.Path.{refl}
 use Rattle.protobuf.proofs.laws.Read.{says}
 use Rattle.fields.specs.Outcome.{each}
 use Rattle.views.specs.Relation.{parsedRelation}
-use Rattle.answers.specs.Views.{relationWords}
+use Rattle.layouts.specs.Views.{relationWords}
 use Rattle.answers.proofs.laws.Codes.{answer-short, answer-refused, answer-kept}
 use Rattle.nuorpyts.proofs.messages.nuorpyts_relation.Statement.{statement}
 use Rattle.nuorpyts.proofs.messages.nuorpyts_relation.Tie as tie

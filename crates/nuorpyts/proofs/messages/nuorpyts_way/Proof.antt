@@ -5,7 +5,7 @@ use mathlib.Core.Path.{refl}
 use Rattle.protobuf.proofs.laws.Read.{says}
 use Rattle.fields.specs.Outcome.{each}
 use Rattle.views.specs.Way.{parsedWay}
-use Rattle.answers.specs.Views.{wayWords}
+use Rattle.layouts.specs.Views.{wayWords}
 use Rattle.answers.proofs.laws.Codes.{answer-short, answer-refused, answer-kept}
 use Rattle.nuorpyts.proofs.messages.nuorpyts_way.Statement.{statement}
 use Rattle.nuorpyts.proofs.messages.nuorpyts_way.Tie as tie

@@ -1,8 +1,7 @@
 // The numbers of each view's answer, in the order that specs/Views gives.
 ghost use mathlib.Core.Path.{_≡_};
-ghost use Rattle.answers.specs.Views.{partWords, nodeWords, wayWords, relationWords, denseNodesWords, denseInfoWords, infoWords};
-use crate::words::bits_i32;
-use fields::part::Part;
+ghost use Rattle.layouts.specs.Views.{nodeWords, wayWords, relationWords, denseNodesWords, denseInfoWords, infoWords};
+use answers::words::bits_i32;
 use numbers::signed::bits_i64;
 use views::dense_info::WireDenseInfo;
 use views::dense_nodes::WireDenseNodes;
@@ -10,13 +9,6 @@ use views::info::WireInfo;
 use views::node::WireNode;
 use views::relation::WireRelation;
 use views::way::WireWay;
-
-// A part's numbers.
-pub fn part_numbers(part: Part) -> [u64; 3]
-    ensures { λ r. ⌜ r ≡ partWords part ⌝ }
-{
-    [part.present as u64, part.start as u64, part.len as u64]
-}
 
 // A node's: its id and position, and three for each part.
 pub fn node_numbers(v: WireNode) -> [u64; 12]

@@ -1,9 +1,9 @@
 -- `info_numbers` gives `infoWords`, number by number; a signed one is passed as its bits.
 use borrow.Author.Needs.{needs}
 use mir.Syntax.{w32, w64}
 use Rattle.answers.proofs.laws.Signed.{as-word}
-use Rattle.answers.proofs.messages.info_numbers.Statement.{statement}
-use Rattle.answers.proofs.messages.info_numbers.Tie as tie
+use Rattle.layouts.proofs.messages.info_numbers.Statement.{statement}
+use Rattle.layouts.proofs.messages.info_numbers.Tie as tie
 
 pub info-numbers-spec : {M : Type 1} → statement M
 info-numbers-spec =

@@ -1,9 +1,9 @@
 -- `node_numbers` gives `nodeWords`, number by number; a signed one is passed as its bits.
 use borrow.Author.Needs.{needs}
 use mir.Syntax.{w64}
 use Rattle.answers.proofs.laws.Signed.{as-word}
-use Rattle.answers.proofs.messages.node_numbers.Statement.{statement}
-use Rattle.answers.proofs.messages.node_numbers.Tie as tie
+use Rattle.layouts.proofs.messages.node_numbers.Statement.{statement}
+use Rattle.layouts.proofs.messages.node_numbers.Tie as tie
 
 pub node-numbers-spec : {M : Type 1} → statement M
 node-numbers-spec =

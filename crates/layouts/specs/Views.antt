@@ -1,4 +1,4 @@
--- The numbers of each view's answer, in their order. A part is three: whether it is present, its start and its length.
+-- The numbers of each view's answer, in their order.
 use Prim.Native.Nat.{ℕ}
 use mathlib.Core.List.{List, [], _∷_, _++_}
 use Rattle.fields.specs.declared.part.Part.{Part}
@@ -11,10 +11,8 @@ use Rattle.views.specs.declared.info.Number32.{Number32}
 use Rattle.views.specs.declared.info.Number64.{Number64}
 use Rattle.views.specs.declared.info.Flag.{Flag}
 use Rattle.views.specs.declared.info.WireInfo.{WireInfo}
 use Rattle.answers.specs.Words.{flag, signedWord}
-
-abbrev pub partWords : Part → List ℕ
-partWords p = flag (p .present) ∷ p .start ∷ p .len ∷ []
+use Rattle.answers.specs.Group.{partWords}
 
 -- several parts, one behind the other
 abbrev pub partsWords : List Part → List ℕ

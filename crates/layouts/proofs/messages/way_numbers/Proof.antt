@@ -1,9 +1,9 @@
 -- `way_numbers` gives `wayWords`, number by number; the signed id is passed as its bits.
 use borrow.Author.Needs.{needs}
 use mir.Syntax.{w64}
 use Rattle.answers.proofs.laws.Signed.{as-word}
-use Rattle.answers.proofs.messages.way_numbers.Statement.{statement}
-use Rattle.answers.proofs.messages.way_numbers.Tie as tie
+use Rattle.layouts.proofs.messages.way_numbers.Statement.{statement}
+use Rattle.layouts.proofs.messages.way_numbers.Tie as tie
 
 pub way-numbers-spec : {M : Type 1} → statement M
 way-numbers-spec =

@@ -1,0 +1,2 @@
+// How the answers of the six views pass through C: the numbers of each, in their order. `answers` puts them into a slice.
+pub mod messages;
