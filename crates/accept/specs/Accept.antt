@@ -9,7 +9,7 @@ use Rattle.numbers.specs.Choose.{choose}
 use Rattle.fields.specs.declared.part.Part.{Part}
 use Rattle.wire.specs.declared.record.WireBlock.{WireBlock}
 use Rattle.fields.specs.Outcome.{Outcome, kept, refused, onward}
-use Rattle.wire.specs.Lookup.{entryAt, isRecordInside}
+use Rattle.lookup.specs.Lookup.{entryAt, isRecordInside}
 use Rattle.accept.specs.declared.check.Checked.{Checked}
 use Rattle.accept.specs.declared.check.Checked.the-variants as check
 use Rattle.block.specs.Check.{passed, all, checkNode, checkWay, checkRelation, checkGroup}

@@ -4,16 +4,16 @@ ghost use mathlib.Core.List.{List};
 ghost use Prim.Native.Nat.{ℕ};
 ghost use lib.ListN.{take};
 ghost use mathlib.Core.Bool.{true};
-ghost use Rattle.wire.specs.Lookup.{isRecordInside};
+ghost use Rattle.lookup.specs.Lookup.{isRecordInside};
 ghost use Rattle.wire.specs.Scan.{Scanned-as};
 ghost use Rattle.block.specs.Check.{passed, all, checked};
 ghost use Rattle.accept.specs.Accept.{checkOf, groupsIn, insideOf, groupAtPart, checkedIn};
 use crate::group_check::check_group;
 use fields::part::bytes_of;
+use lookup::by_number::GroupRange;
+use lookup::by_number::group;
+use lookup::by_number::is_inside;
 use protobuf::refusal::Refusal;
-use wire::lookup::GroupRange;
-use wire::lookup::group;
-use wire::lookup::is_inside;
 use wire::record::WireBlock;
 
 // What the check says of a block. What else may be said of one gets a case of its own.

@@ -10,13 +10,13 @@ use Rattle.numbers.specs.Little.{written}
 use Rattle.protobuf.specs.Refusal.{number}
 use Rattle.fields.specs.declared.part.Part.{Part}
 use Rattle.wire.specs.declared.record.WireBlock.{WireBlock}
-use Rattle.wire.specs.declared.lookup.Got.{Got}
-use Rattle.wire.specs.declared.lookup.Got.the-variants as got
-use Rattle.wire.specs.declared.lookup.GroupRange.{GroupRange}
-use Rattle.wire.specs.declared.lookup.GroupRange.the-variants as range
+use Rattle.lookup.specs.declared.by_number.Got.{Got}
+use Rattle.lookup.specs.declared.by_number.Got.the-variants as got
+use Rattle.lookup.specs.declared.by_number.GroupRange.{GroupRange}
+use Rattle.lookup.specs.declared.by_number.GroupRange.the-variants as range
 use Rattle.fields.specs.Outcome.{Outcome, kept, refused, onward}
 use Rattle.wire.specs.Scan.{Scanned, scanned, afterScan}
-use Rattle.wire.specs.Lookup.{getAt, groupAt}
+use Rattle.lookup.specs.Lookup.{getAt, groupAt}
 use Rattle.answers.specs.Words.{words, filled}
 use Rattle.answers.specs.Codes.{noneCode}
 use Rattle.answers.specs.Record.{recordWords, recordIn}

@@ -17,10 +17,10 @@ use Rattle.fields.specs.Outcome.{kept, refused, onward, each}
 use Rattle.fields.specs.Part.{partBy}
 use Rattle.fields.specs.Parts.{partsOf, messagesOf}
 use Rattle.fields.specs.View.{columnPart, infoPart, put, store, viewFrom, view}
-use Rattle.wire.specs.declared.lookup.Got.the-variants as got
+use Rattle.lookup.specs.declared.by_number.Got.the-variants as got
 use Rattle.wire.specs.Tables.{entries}
 use Rattle.wire.specs.Scan.{tablesStage, stringsStage, fieldsStage, scanned}
-use Rattle.wire.specs.Lookup.{getAt, groupAt}
+use Rattle.lookup.specs.Lookup.{getAt, groupAt}
 use Rattle.groups.specs.declared.classify.BlockType.the-variants.{Empty, Nodes, DenseNodes}
 use Rattle.groups.specs.Classify.{blockType}
 use Rattle.groups.specs.Group.{denseFrom}

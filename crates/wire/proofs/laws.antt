@@ -4,9 +4,6 @@ pub mod Filling
 pub mod Occurrences
 pub mod Refusals
 pub mod Scan
-pub mod Lookup
-pub mod Named
-pub mod Scanned
 pub mod Limits
 pub mod Room
 pub mod Leaves

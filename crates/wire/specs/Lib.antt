@@ -2,7 +2,6 @@
 -- and document 01, section 2. Read them in this order.
 pub mod Block
 pub mod Tables
-pub mod Lookup
 pub mod Scan
 pub mod Worked
 pub mod Limits

@@ -3,7 +3,6 @@
 use Prim.Native.Nat.{ℕ, _-_, _^_}
 use mathlib.Core.Path.{_≡_, refl}
 use mathlib.Core.List.{List, [], _∷_, _++_}
-use mathlib.Core.Bool.{true, false}
 use lib.ListN.{length, replicate}
 use lib.IntN.{pos, negsuc}
 use Rattle.protobuf.specs.declared.refusal.Refusal.the-variants.{VarintCut, VarintLong, TagValue, WireType, PastEnd, GroupDepth, Granularity, NoRoom, Outside}
@@ -14,17 +13,15 @@ use Rattle.protobuf.specs.Payload.{rawVarint, fixed, counted, lengthDelimited, 
 use Rattle.protobuf.specs.Stream.{unrolled}
 use Rattle.protobuf.specs.Message.{fieldAt, messageFrom}
 use Rattle.numbers.specs.Signed.{signed, twos}
-use Rattle.numbers.specs.Little.{little, bytes, numberAt}
+use Rattle.numbers.specs.Little.{bytes}
 use Rattle.fields.specs.Outcome.{Outcome, kept, refused, onward, each}
-use Rattle.fields.specs.Part.{partBy}
+use Rattle.fields.specs.Part.{partBy, noPart}
 use Rattle.fields.specs.Parts.{partsOf}
 use Rattle.fields.specs.View.{put, store, viewFrom, view}
 use Rattle.wire.specs.declared.record.WireBlock.{WireBlock}
-use Rattle.wire.specs.declared.lookup.Got.the-variants as got
-use Rattle.wire.specs.declared.lookup.GroupRange.the-variants as range
 use Rattle.wire.specs.Tables.{entries}
 use Rattle.wire.specs.Scan.{Scanned, meta, tablesStage, stringsStage, fieldsStage, scanned, afterScan}
-use Rattle.wire.specs.Lookup.{entryAt, getAt, isRecordInside, groupAt, lastOf, chosenTable, stringParts, groupParts, stringOf, groupOf}
+use Rattle.wire.specs.Block.{lastOf, chosenTable}
 
 -- a block with n bytes behind it
 abbrev behind : List ℕ → ℕ → List ℕ
@@ -52,26 +49,11 @@ two = 0x0A ∷ 0x05 ∷ 0x0A ∷ 0x00 ∷ 0x0A ∷ 0x01 ∷ 0x61 ∷ 0x12 ∷ 0x
 abbrev longString : List ℕ
 longString = 0x0A ∷ 0xAF ∷ 0x02 ∷ 0x0A ∷ 0xAC ∷ 0x02 ∷ (replicate 300 0x61 ++ 0x12 ∷ 0x00 ∷ [])
 
--- a record that says where things stand
-abbrev place : ℕ → ℕ → ℕ → ℕ → ℕ → WireBlock
-place block strings stringtable groups grouptable =
-    record {
-      block = block;
-      strings = strings;
-      stringtable = stringtable;
-      groups = groups;
-      grouptable = grouptable;
-      granularity = pos 100;
-      dategranularity = pos 1000;
-      latoffset = pos 0;
-      lonoffset = pos 0;
-    }
-
--- four bytes and a table with the entry (1, 2)
-abbrev buffer : List ℕ
-buffer = 0xEE ∷ 0xEE ∷ 0xEE ∷ 0xEE ∷ 0x01 ∷ 0x00 ∷ 0x00 ∷ 0x00 ∷ 0x02 ∷ 0x00 ∷ 0x00 ∷ 0x00 ∷ []
-
 pub record Worked : Type 0 where
+  -- the chosen string table is the last, even an empty one, and absent where there is none
+  pub chosen-last : chosenTable (0x0A ∷ 0x02 ∷ 0x0A ∷ 0x00 ∷ 0x0A ∷ 0x01 ∷ 0x61 ∷ []) ≡ partBy 6 1
+  pub chosen-empty : chosenTable (0x0A ∷ 0x02 ∷ 0x0A ∷ 0x00 ∷ 0x0A ∷ 0x00 ∷ []) ≡ partBy 6 0
+  pub chosen-none : chosenTable (0x12 ∷ 0x00 ∷ []) ≡ noPart
   -- the record: all six fields, with negative numbers; nothing, so all defaults; of a number that comes twice the last
   pub six-fields : recordOf sixFields 16 ≡ kept (record { block = 54; strings = 1; stringtable = 54; groups = 1; grouptable = 62; granularity = negsuc 2; dategranularity = negsuc (2 ^ 31 - 1); latoffset = negsuc 1; lonoffset = negsuc (2 ^ 63 - 1) })
   pub no-fields : recordOf [] 0 ≡ kept (record { block = 0; strings = 0; stringtable = 0; groups = 0; grouptable = 0; granularity = pos 100; dategranularity = pos 1000; latoffset = pos 0; lonoffset = pos 0 })
@@ -111,45 +93,14 @@ pub record Worked : Type 0 where
   -- a buffer that is just long enough: the tables of two groups of no bytes take four times the block, which is the most
   pub groups-fit : recordOf (0x12 ∷ 0x00 ∷ 0x12 ∷ 0x00 ∷ []) 16 ≡ kept (record { block = 4; strings = 0; stringtable = 4; groups = 2; grouptable = 4; granularity = pos 100; dategranularity = pos 1000; latoffset = pos 0; lonoffset = pos 0 })
   pub groups-do-not-fit : scan (0x12 ∷ 0x00 ∷ 0x12 ∷ 0x00 ∷ []) 15 ≡ refused NoRoom
-  -- an entry: four little-endian bytes each
-  pub entry-numbers : entryAt (0x01 ∷ 0x02 ∷ 0x03 ∷ 0x04 ∷ 0x05 ∷ 0x06 ∷ 0x07 ∷ 0x08 ∷ []) 0 ≡ partBy 0x04030201 0x08070605
-  -- a string through the table: by its count and its table alone; none at the count and where its entry passes the buffer, 14 where its
-  -- range does
-  pub get-text : getAt buffer (place 4 1 4 0 0) 0 ≡ got.Text (partBy 1 2)
-  pub get-its-table-alone : getAt buffer (place 100 1 4 9 100) 0 ≡ got.Text (partBy 1 2)
-  pub get-second : getAt (0xEE ∷ 0xEE ∷ 0xEE ∷ 0xEE ∷ 0x01 ∷ 0x00 ∷ 0x00 ∷ 0x00 ∷ 0x02 ∷ 0x00 ∷ 0x00 ∷ 0x00 ∷ 0x03 ∷ 0x00 ∷ 0x00 ∷ 0x00 ∷ 0x01 ∷ 0x00 ∷ 0x00 ∷ 0x00 ∷ []) (place 4 2 4 0 0) 1 ≡ got.Text (partBy 3 1)
-  pub get-at-the-count : getAt buffer (place 4 1 4 0 0) 1 ≡ got.None
-  pub get-past-the-buffer : getAt buffer (place 4 2 4 0 0) 1 ≡ got.None
-  pub get-one-byte-short : getAt buffer (place 4 1 5 0 0) 0 ≡ got.None
-  pub get-to-the-end : getAt (0xEE ∷ 0xEE ∷ 0xEE ∷ 0xEE ∷ 0x01 ∷ 0x00 ∷ 0x00 ∷ 0x00 ∷ 0x0B ∷ 0x00 ∷ 0x00 ∷ 0x00 ∷ []) (place 4 1 4 0 0) 0 ≡ got.Text (partBy 1 11)
-  pub get-range-outside : getAt (0xEE ∷ 0xEE ∷ 0xEE ∷ 0xEE ∷ 0x01 ∷ 0x00 ∷ 0x00 ∷ 0x00 ∷ 0x0C ∷ 0x00 ∷ 0x00 ∷ 0x00 ∷ []) (place 4 1 4 0 0) 0 ≡ got.Refused Outside
-  -- a record is inside where its block and both tables are
-  pub record-to-the-end : isRecordInside buffer (place 12 1 4 1 4) ≡ true
-  pub record-block-outside : isRecordInside buffer (place 13 1 4 1 4) ≡ false
-  pub record-strings-outside : isRecordInside buffer (place 12 1 5 1 4) ≡ false
-  pub record-groups-outside : isRecordInside buffer (place 12 1 4 1 5) ≡ false
-  -- a group through the table: 14 at the count, where the record is outside, and where its range is
-  pub group-range : groupAt buffer (place 4 0 4 1 4) 0 ≡ range.Range (partBy 1 2)
-  pub group-at-the-count : groupAt buffer (place 4 0 4 1 4) 1 ≡ range.Refused Outside
-  pub group-block-outside : groupAt buffer (place 13 0 4 1 4) 0 ≡ range.Refused Outside
-  pub group-strings-outside : groupAt buffer (place 4 2 4 1 4) 0 ≡ range.Refused Outside
-  pub group-table-outside : groupAt buffer (place 4 0 4 2 4) 0 ≡ range.Refused Outside
-  pub group-range-outside : groupAt (0xEE ∷ 0xEE ∷ 0xEE ∷ 0xEE ∷ 0x01 ∷ 0x00 ∷ 0x00 ∷ 0x00 ∷ 0x0C ∷ 0x00 ∷ 0x00 ∷ 0x00 ∷ []) (place 4 0 4 1 4) 0 ≡ range.Refused Outside
-  -- strings and groups of the block's own bytes: of the last string table, counted from the block's start
-  pub string-first : stringOf two 0 ≡ got.Text (partBy 4 0)
-  pub string-second : stringOf two 1 ≡ got.Text (partBy 6 1)
-  pub string-at-the-count : stringOf two 2 ≡ got.None
-  pub string-of-the-last-table : stringOf (0x0A ∷ 0x04 ∷ 0x0A ∷ 0x00 ∷ 0x0A ∷ 0x00 ∷ 0x0A ∷ 0x02 ∷ 0x0A ∷ 0x00 ∷ []) 0 ≡ got.Text (partBy 10 0)
-  pub string-of-an-empty-table : stringOf (two ++ 0x0A ∷ 0x00 ∷ []) 0 ≡ got.None
-  pub string-of-no-table : stringOf (0x12 ∷ 0x00 ∷ []) 0 ≡ got.None
-  pub group-first : groupOf (0x12 ∷ 0x01 ∷ 0x80 ∷ 0x12 ∷ 0x02 ∷ 0x00 ∷ 0x00 ∷ []) 0 ≡ range.Range (partBy 2 1)
-  pub group-second : groupOf (0x12 ∷ 0x01 ∷ 0x80 ∷ 0x12 ∷ 0x02 ∷ 0x00 ∷ 0x00 ∷ []) 1 ≡ range.Range (partBy 5 2)
-  pub group-past : groupOf (0x12 ∷ 0x01 ∷ 0x80 ∷ 0x12 ∷ 0x02 ∷ 0x00 ∷ 0x00 ∷ []) 2 ≡ range.Refused Outside
 
 pub worked : Worked
-unfolding andThen digits varint legal tag tagAt rawVarint fixed counted lengthDelimited valueBy fieldIn fieldsOf groupBy payload unrolled fieldAt messageFrom signed twos little bytes numberAt onward each put store viewFrom view partsOf entries tablesStage stringsStage fieldsStage scanned getAt groupAt lastOf chosenTable stringParts groupParts
+unfolding andThen digits varint legal tag tagAt rawVarint fixed counted lengthDelimited valueBy fieldIn fieldsOf groupBy payload unrolled fieldAt messageFrom signed twos bytes onward each put store viewFrom view partsOf entries tablesStage stringsStage fieldsStage scanned lastOf chosenTable
 worked =
     record {
+      chosen-last = refl;
+      chosen-empty = refl;
+      chosen-none = refl;
       six-fields = refl;
       no-fields = refl;
       number-twice = refl;
@@ -182,32 +133,4 @@ worked =
       strings-before-room = refl;
       groups-fit = refl;
       groups-do-not-fit = refl;
-      entry-numbers = refl;
-      get-text = refl;
-      get-its-table-alone = refl;
-      get-second = refl;
-      get-at-the-count = refl;
-      get-past-the-buffer = refl;
-      get-one-byte-short = refl;
-      get-to-the-end = refl;
-      get-range-outside = refl;
-      record-to-the-end = refl;
-      record-block-outside = refl;
-      record-strings-outside = refl;
-      record-groups-outside = refl;
-      group-range = refl;
-      group-at-the-count = refl;
-      group-block-outside = refl;
-      group-strings-outside = refl;
-      group-table-outside = refl;
-      group-range-outside = refl;
-      string-first = refl;
-      string-second = refl;
-      string-at-the-count = refl;
-      string-of-the-last-table = refl;
-      string-of-an-empty-table = refl;
-      string-of-no-table = refl;
-      group-first = refl;
-      group-second = refl;
-      group-past = refl;
     }

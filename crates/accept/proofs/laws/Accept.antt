@@ -15,12 +15,12 @@ use Rattle.fields.specs.declared.part.Part.{Part}
 use Rattle.fields.specs.Outcome.{Outcome, kept, refused, onward}
 use Rattle.fields.proofs.laws.Outcome.{went}
 use Rattle.wire.specs.declared.record.WireBlock.{WireBlock}
-use Rattle.wire.specs.declared.lookup.GroupRange.{GroupRange}
-use Rattle.wire.specs.declared.lookup.GroupRange.the-variants as range
-use Rattle.wire.specs.Lookup.{entryAt, isRecordInside, groupAt, groupParts}
+use Rattle.lookup.specs.declared.by_number.GroupRange.{GroupRange}
+use Rattle.lookup.specs.declared.by_number.GroupRange.the-variants as range
+use Rattle.lookup.specs.Lookup.{entryAt, isRecordInside, groupAt, groupParts}
 use Rattle.wire.specs.Scan.{Scanned-as}
-use Rattle.wire.proofs.laws.Named.{Named, no-more, names}
-use Rattle.wire.proofs.laws.Scanned.{same-bytes, block-inside, record-stands, groups-counted, groups-named}
+use Rattle.lookup.proofs.laws.Named.{Named, no-more, names}
+use Rattle.lookup.proofs.laws.Scanned.{same-bytes, block-inside, record-stands, groups-counted, groups-named}
 use Rattle.block.specs.Check.{passed, all, checkGroup, checked}
 use Rattle.accept.specs.Accept.{partsAt, groupsIn, insideOf, groupAtPart, checkedIn}
 use Rattle.block.proofs.laws.Onward.{on-refused, on-kept, all-refused, all-on}

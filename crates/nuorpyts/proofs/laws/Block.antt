@@ -7,11 +7,11 @@ use lib.Dec.{leb}
 use Rattle.protobuf.specs.declared.refusal.Refusal.{Refusal}
 use Rattle.numbers.specs.Choose.{choose}
 use Rattle.wire.specs.declared.record.WireBlock.{WireBlock}
-use Rattle.wire.specs.declared.lookup.Got.{Got}
-use Rattle.wire.specs.declared.lookup.Got.the-variants as got
-use Rattle.wire.specs.declared.lookup.GroupRange.{GroupRange}
+use Rattle.lookup.specs.declared.by_number.Got.{Got}
+use Rattle.lookup.specs.declared.by_number.Got.the-variants as got
+use Rattle.lookup.specs.declared.by_number.GroupRange.{GroupRange}
 use Rattle.fields.specs.Outcome.{kept, refused, onward}
-use Rattle.wire.specs.Lookup.{getAt, groupAt}
+use Rattle.lookup.specs.Lookup.{getAt, groupAt}
 use Rattle.answers.specs.Record.{recordIn}
 use Rattle.answers.specs.Group.{rangeWords}
 use Rattle.answers.proofs.laws.Words.{put-short}

@@ -15,11 +15,11 @@ use Rattle.protobuf.specs.Refusal.{number}
 use Rattle.fields.specs.declared.part.Part.{Part}
 use Rattle.fields.specs.Outcome.{Outcome, kept, onward}
 use Rattle.wire.specs.declared.record.WireBlock.{WireBlock}
-use Rattle.wire.specs.declared.lookup.Got.{Got}
+use Rattle.lookup.specs.declared.by_number.Got.{Got}
 use Rattle.wire.specs.Scan.{Scanned, Scanned-as}
-use Rattle.wire.specs.Lookup.{getAt, groupAt, stringOf, groupOf}
+use Rattle.lookup.specs.Lookup.{getAt, groupAt, stringOf, groupOf}
 use Rattle.wire.proofs.laws.Scan.{Kept, scan-kept, total}
-use Rattle.wire.proofs.laws.Scanned.{scanned-get, scanned-group}
+use Rattle.lookup.proofs.laws.Scanned.{scanned-get, scanned-group}
 use Rattle.answers.specs.Record.{recordWords, recordIn}
 use Rattle.answers.specs.Group.{rangeWords}
 use Rattle.answers.specs.Codes.{answerCode, answerAfter}

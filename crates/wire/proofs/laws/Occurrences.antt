@@ -19,7 +19,7 @@ use Rattle.fields.specs.Parts.{isPart, partsOf}
 use Rattle.fields.specs.View.{Kind, bytes, repeated, Row, Schema, takes, slotBy, Slots, empty, with, put, store, view, viewFrom}
 use Rattle.fields.specs.Schema.{row}
 use Rattle.fields.proofs.laws.Outcome.{If, so, not, if-kept, if-onward, if-any, if-so}
-use Rattle.wire.specs.Lookup.{lastOf}
+use Rattle.wire.specs.Block.{lastOf}
 
 -- ---- a slot, occurrence by occurrence
 

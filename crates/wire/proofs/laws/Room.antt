@@ -32,7 +32,7 @@ use Rattle.fields.proofs.laws.Outcome.{each-refused}
 use Rattle.wire.specs.declared.primitive_block.BlockFields.{BlockFields}
 use Rattle.wire.specs.declared.record.WireBlock.{WireBlock}
 use Rattle.wire.specs.Block.{blockFields}
-use Rattle.wire.specs.Lookup.{lastOf, chosenTable}
+use Rattle.wire.specs.Block.{lastOf, chosenTable}
 use Rattle.wire.specs.Scan.{limit, stringBytes, stringCount, meta, scanned, fieldsStage, stringsStage, FieldsRead, StringsRead, afterScan}
 use Rattle.wire.proofs.laws.Refusals.{Each, FairOutcome, was-kept, was-refused, fair-refusal, fair-onward, view-fair, Other, never}
 use Rattle.wire.proofs.laws.Scan.{block-length, string-bytes-length, string-table, string-count, group-count, with-room}

@@ -22,7 +22,7 @@ use Rattle.fields.specs.View.{bytes, repeated, Slots, view}
 use Rattle.fields.specs.Schema.{primitiveBlock, stringTable}
 use Rattle.wire.specs.Block.{blockFields}
 use Rattle.wire.specs.Tables.{entries, Room}
-use Rattle.wire.specs.Lookup.{chosenTable}
+use Rattle.wire.specs.Block.{chosenTable}
 use Rattle.wire.specs.Scan.{limit, stringBytes, stringCount, tables, recordBy, Scanned, tablesStage, stringsStage, fieldsStage, scanned, FieldsRead, StringsRead}
 use Rattle.fields.proofs.laws.Outcome.{each-kept, each-refused, went, chosen, kept-same}
 use Rattle.fields.proofs.laws.Part.{lent, lent-is}

@@ -6,7 +6,7 @@ use mathlib.Core.Path.{_≡_, refl, ap, _∙_}
 use Rattle.protobuf.proofs.laws.Read.{says}
 use Rattle.answers.specs.Words.{filled}
 use Rattle.answers.specs.Record.{recordOf}
-use Rattle.wire.specs.declared.lookup.Got.{Got}
+use Rattle.lookup.specs.declared.by_number.Got.{Got}
 use Rattle.nuorpyts.specs.Block.{getIn, gotCode, gotAfter}
 use Rattle.nuorpyts.proofs.laws.Block.{get-no-record, get-with-record, got-short, got-answer}
 use Rattle.nuorpyts.proofs.laws.Scanned.{GetClauses, get-clauses}

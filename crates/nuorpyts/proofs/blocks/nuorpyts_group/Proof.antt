@@ -4,7 +4,7 @@ use Prim.Native.Nat.{ℕ}
 use mathlib.Core.List.{List}
 use mathlib.Core.Path.{_≡_, refl}
 use Rattle.protobuf.proofs.laws.Read.{says}
-use Rattle.wire.specs.declared.lookup.GroupRange.{GroupRange}
+use Rattle.lookup.specs.declared.by_number.GroupRange.{GroupRange}
 use Rattle.answers.specs.Record.{recordOf}
 use Rattle.answers.specs.Group.{rangeWords}
 use Rattle.answers.proofs.laws.Codes.{Answered, answer-short, answer-refused, answer-kept}

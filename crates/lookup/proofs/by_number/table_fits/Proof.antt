@@ -1,8 +1,8 @@
 -- `table_fits` compares with the entries that there is room for behind `place`, so that no product or sum wraps.
 use Rattle.fields.proofs.laws.Part.{none-fit}
-use Rattle.wire.proofs.laws.Lookup.{entries-fit}
-use Rattle.wire.proofs.lookup.table_fits.Statement.{statement}
-use Rattle.wire.proofs.lookup.table_fits.Tie as tie
+use Rattle.lookup.proofs.laws.Lookup.{entries-fit}
+use Rattle.lookup.proofs.by_number.table_fits.Statement.{statement}
+use Rattle.lookup.proofs.by_number.table_fits.Tie as tie
 
 returns : tie.Need-returns
 returns c = none-fit _ _ _ (c .if1 .taken)

@@ -1,7 +1,7 @@
 -- Strings and groups by their number: through the tables behind a block, on any buffer and record; and of a block's own bytes, with no record
 -- and no table, which is what the first come to on what a scan left.
 use Prim.Native.Nat.{ℕ, _+_, _*_}
-use mathlib.Core.List.{List, [], _∷_, map}
+use mathlib.Core.List.{List, map}
 use mathlib.Core.Option.{Option, none, some}
 use mathlib.Core.Bool.{Bool, false}
 use lib.ListN.{length, getElem?}
@@ -11,12 +11,13 @@ use Rattle.numbers.specs.Choose.{choose}
 use Rattle.numbers.specs.Little.{numberAt}
 use Rattle.protobuf.specs.Message.{message}
 use Rattle.fields.specs.declared.part.Part.{Part}
 use Rattle.wire.specs.declared.record.WireBlock.{WireBlock}
-use Rattle.wire.specs.declared.lookup.Got.{Got}
-use Rattle.wire.specs.declared.lookup.Got.the-variants as got
-use Rattle.wire.specs.declared.lookup.GroupRange.{GroupRange}
-use Rattle.wire.specs.declared.lookup.GroupRange.the-variants as range
-use Rattle.fields.specs.Part.{partBy, noPart, moved, isInside, bytesIn}
+use Rattle.wire.specs.Block.{chosenTable}
+use Rattle.lookup.specs.declared.by_number.Got.{Got}
+use Rattle.lookup.specs.declared.by_number.Got.the-variants as got
+use Rattle.lookup.specs.declared.by_number.GroupRange.{GroupRange}
+use Rattle.lookup.specs.declared.by_number.GroupRange.the-variants as range
+use Rattle.fields.specs.Part.{partBy, moved, isInside, bytesIn}
 use Rattle.fields.specs.Parts.{partsOf}
 
 -- ---- through the tables
@@ -47,15 +48,6 @@ groupAt s r index =
     (range.Refused Outside)
 
 -- ---- of the block's own bytes
-
--- the last of some parts, or another where there are none
-unfoldable pub lastOf : Part → List Part → Part
-lastOf other [] = other
-lastOf other (p ∷ rest) = lastOf p rest
-
--- the chosen string table is the last, even an empty one
-unfoldable pub chosenTable : List ℕ → Part
-chosenTable block = lastOf noPart (partsOf 1 (message block))
 
 -- its strings, as parts of the block
 unfoldable pub stringParts : List ℕ → List Part

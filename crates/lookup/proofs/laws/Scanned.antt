@@ -15,17 +15,17 @@ use Rattle.protobuf.proofs.laws.Message.{all-within}
 use Rattle.fields.specs.declared.part.Part.{Part}
 use Rattle.fields.specs.Part.{bytesIn, moved}
 use Rattle.fields.specs.Parts.{partsOf}
 use Rattle.wire.specs.declared.record.WireBlock.{WireBlock}
 use Rattle.wire.specs.declared.primitive_block.BlockFields.{BlockFields}
-use Rattle.wire.specs.declared.lookup.Got.{Got}
-use Rattle.wire.specs.declared.lookup.Got.the-variants as got
-use Rattle.wire.specs.declared.lookup.GroupRange.{GroupRange}
-use Rattle.wire.specs.declared.lookup.GroupRange.the-variants as range
+use Rattle.lookup.specs.declared.by_number.Got.{Got}
+use Rattle.lookup.specs.declared.by_number.Got.the-variants as got
+use Rattle.lookup.specs.declared.by_number.GroupRange.{GroupRange}
+use Rattle.lookup.specs.declared.by_number.GroupRange.the-variants as range
 use Rattle.wire.specs.Scan.{Scanned, stringBytes, tables, recordBy, Scanned-as}
-use Rattle.wire.specs.Lookup.{isRecordInside, getAt, groupAt, stringParts, groupParts, gotBy, rangeBy, stringOf, groupOf}
-use Rattle.wire.proofs.laws.Lookup.{record-inside, get-past-count, get-text, group-past-count, group-range}
-use Rattle.wire.proofs.laws.Named.{Named, same-names, named-at, none-past, read-back, unmoved}
+use Rattle.lookup.specs.Lookup.{isRecordInside, getAt, groupAt, stringParts, groupParts, gotBy, rangeBy, stringOf, groupOf}
+use Rattle.lookup.proofs.laws.Lookup.{record-inside, get-past-count, get-text, group-past-count, group-range}
+use Rattle.lookup.proofs.laws.Named.{Named, same-names, named-at, none-past, read-back, unmoved}
 use Rattle.wire.proofs.laws.Scan.{part-of-front, Kept, scan-kept, block-length, stringEntries, groupEntries, strings-within, string-bytes-length, string-table, strings-length, string-count, group-count, total}
 
 module _ {s : List ℕ} {r : WireBlock} {b : List ℕ} {n : ℕ} (w : Scanned-as s r b n) where
   scan : Kept b n (w .scan)

@@ -2,8 +2,8 @@
 use borrow.Author.Needs.{needs}
 use borrow.Author.Tests.{le-leb, lt-leb}
 use Rattle.fields.proofs.laws.Part.{refuted, confirmed}
-use Rattle.wire.proofs.lookup.is_inside.Statement.{statement}
-use Rattle.wire.proofs.lookup.is_inside.Tie as tie
+use Rattle.lookup.proofs.by_number.is_inside.Statement.{statement}
+use Rattle.lookup.proofs.by_number.is_inside.Tie as tie
 
 returns : tie.Need-returns
 returns c = simp (lt-leb _ _ (c .if1 .taken))

@@ -12,11 +12,11 @@ use Rattle.protobuf.specs.declared.refusal.Refusal.the-variants.{Outside}
 use Rattle.numbers.specs.Choose.{choose}
 use Rattle.numbers.proofs.laws.Choose.{same-test}
 use Rattle.fields.specs.declared.part.Part.{Part}
 use Rattle.wire.specs.declared.record.WireBlock.{WireBlock}
-use Rattle.wire.specs.declared.lookup.Got.the-variants as got
-use Rattle.wire.specs.declared.lookup.GroupRange.the-variants as range
+use Rattle.lookup.specs.declared.by_number.Got.the-variants as got
+use Rattle.lookup.specs.declared.by_number.GroupRange.the-variants as range
 use Rattle.fields.specs.Part.{isInside}
-use Rattle.wire.specs.Lookup.{entryAt, getAt, isRecordInside, groupAt}
+use Rattle.lookup.specs.Lookup.{entryAt, getAt, isRecordInside, groupAt}
 
 -- ---- tests
 

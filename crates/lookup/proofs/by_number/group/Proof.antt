@@ -6,12 +6,12 @@ use mathlib.Core.Path.{_≡_, sym, _∙_}
 use mathlib.Core.Bool.{true}
 use lib.ListN.{length}
 use denote.Ref.{now}
-use Rattle.wire.specs.Lookup.{isRecordInside}
+use Rattle.lookup.specs.Lookup.{isRecordInside}
 use Rattle.fields.proofs.laws.Part.{refuted, confirmed}
-use Rattle.wire.proofs.laws.Lookup.{record-inside, group-outside, group-past-count, group-range, group-refused}
-use Rattle.wire.proofs.laws.Scanned.{group-clauses}
-use Rattle.wire.proofs.lookup.group.Statement.{statement}
-use Rattle.wire.proofs.lookup.group.Tie as tie
+use Rattle.lookup.proofs.laws.Lookup.{record-inside, group-outside, group-past-count, group-range, group-refused}
+use Rattle.lookup.proofs.laws.Scanned.{group-clauses}
+use Rattle.lookup.proofs.by_number.group.Statement.{statement}
+use Rattle.lookup.proofs.by_number.group.Tie as tie
 
 inside : (c : tie.Else1) → let a = c .before .before .before .args in isRecordInside (now (a .buffer)) (a .block) ≡ true
 inside c = confirmed (c .before .is-inside .ensures) (c .if1 .left)

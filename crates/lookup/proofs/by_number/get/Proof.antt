@@ -7,10 +7,10 @@ use lib.ListN.{length}
 use denote.Ref.{now}
 use borrow.Author.Tests.{leb-true, leb-false}
 use Rattle.fields.proofs.laws.Part.{refuted, confirmed}
-use Rattle.wire.proofs.laws.Lookup.{get-past-count, get-past-table, get-text, get-refused}
-use Rattle.wire.proofs.laws.Scanned.{get-clauses}
-use Rattle.wire.proofs.lookup.get.Statement.{statement}
-use Rattle.wire.proofs.lookup.get.Tie as tie
+use Rattle.lookup.proofs.laws.Lookup.{get-past-count, get-past-table, get-text, get-refused}
+use Rattle.lookup.proofs.laws.Scanned.{get-clauses}
+use Rattle.lookup.proofs.by_number.get.Statement.{statement}
+use Rattle.lookup.proofs.by_number.get.Tie as tie
 
 returns-3 : tie.Need-returns-3
 returns-3 c =

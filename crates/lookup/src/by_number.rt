@@ -4,13 +4,13 @@ ghost use mathlib.Core.List.{List};
 ghost use Prim.Native.Nat.{ℕ, _+_, _*_, _≤_};
 ghost use lib.Dec.{leb};
 ghost use lib.ListN.{length, take};
 ghost use Rattle.wire.specs.Scan.{Scanned-as};
-ghost use Rattle.wire.specs.Lookup.{entryAt, getAt, isRecordInside, groupAt, stringOf, groupOf};
-use crate::record::WireBlock;
+ghost use Rattle.lookup.specs.Lookup.{entryAt, getAt, isRecordInside, groupAt, stringOf, groupOf};
 use fields::part::Part;
 use fields::part::part_fits;
 use numbers::little::read_u32;
 use protobuf::refusal::Refusal;
+use wire::record::WireBlock;
 
 pub enum Got {
     Text(Part),

@@ -1,8 +1,8 @@
 -- `entry_at` reads the entry's two numbers.
 use borrow.Author.Needs.{needs}
 use Rattle.fields.specs.Part.{partBy}
-use Rattle.wire.proofs.lookup.entry_at.Statement.{statement}
-use Rattle.wire.proofs.lookup.entry_at.Tie as tie
+use Rattle.lookup.proofs.by_number.entry_at.Statement.{statement}
+use Rattle.lookup.proofs.by_number.entry_at.Tie as tie
 
 pub entry-at-spec : {M : Type 1} → statement M
 entry-at-spec =

@@ -17,9 +17,9 @@ use Rattle.protobuf.proofs.laws.Stream.{Every, this-and}
 use Rattle.fields.specs.declared.part.Part.{Part}
 use Rattle.fields.specs.Part.{partBy, moved}
 use Rattle.fields.specs.Parts.{isPart, partsOf}
 use Rattle.wire.specs.Tables.{entry, entries}
-use Rattle.wire.specs.Lookup.{entryAt}
+use Rattle.lookup.specs.Lookup.{entryAt}
 use Rattle.wire.proofs.laws.Tables.{entry-length}
 
 -- from a place on, the entries of s name the parts, each of which lies within n bytes
 pub data Named (s : List ℕ) (n : ℕ) : ℕ → List Part → Type 0 where
