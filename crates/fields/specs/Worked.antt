@@ -4,7 +4,8 @@ use Prim.Native.Nat.{ℕ, _-_, _^_}
 use mathlib.Core.Path.{_≡_, refl}
 use mathlib.Core.List.{List, [], _∷_}
 use mathlib.Core.Bool.{false}
-use Rattle.protobuf.specs.declared.refusal.Refusal.the-variants.{VarintCut, PastEnd, Granularity, SecondColumn, SecondInfo, Outside}
+use lib.ListN.{replicate}
+use Rattle.protobuf.specs.declared.refusal.Refusal.the-variants.{VarintCut, VarintLong, TagValue, WireType, PastEnd, GroupDepth, Granularity, SecondColumn, SecondInfo, Outside}
 use Rattle.protobuf.specs.Read.{andThen}
 use Rattle.protobuf.specs.Varint.{digits, varint}
 use Rattle.protobuf.specs.Tag.{legal, tag, tagAt}
@@ -40,6 +41,12 @@ pub record Worked : Type 0 where
   pub info-both-empty : partIn node (0x22 ∷ 0x00 ∷ 0x22 ∷ 0x00 ∷ []) 4 ≡ kept (partBy 4 0)
   pub info-second : viewIn node (0x22 ∷ 0x01 ∷ 0x08 ∷ 0x22 ∷ 0x01 ∷ 0x08 ∷ []) 0 6 ≡ refused SecondInfo
   pub dense-info-second : viewIn denseNodes (0x2A ∷ 0x01 ∷ 0x08 ∷ 0x2A ∷ 0x01 ∷ 0x08 ∷ []) 0 6 ≡ refused SecondInfo
+  -- the stream's own numbers: 3, 4, 5 and 7 (2 and 6 are below)
+  pub varint-long : viewIn way (replicate 10 0xFF) 0 10 ≡ refused VarintLong
+  pub field-zero : viewIn way (0x07 ∷ []) 0 1 ≡ refused TagValue
+  pub wire-type-six : viewIn way (0x0E ∷ []) 0 1 ≡ refused WireType
+  pub group-not-open : viewIn way (0x0C ∷ []) 0 1 ≡ refused WireType
+  pub seventeen-groups : viewIn way (replicate 17 0x0B) 0 17 ≡ refused GroupDepth
   -- which number comes first: 14, then field by field the payload's, then 9 or 10
   pub outside-first : viewIn way (0x80 ∷ []) 0 2 ≡ refused Outside
   pub outside-start : viewIn way [] 1 0 ≡ refused Outside
@@ -86,6 +93,11 @@ worked =
       info-both-empty = refl;
       info-second = refl;
       dense-info-second = refl;
+      varint-long = refl;
+      field-zero = refl;
+      wire-type-six = refl;
+      group-not-open = refl;
+      seventeen-groups = refl;
       outside-first = refl;
       outside-start = refl;
       payload-before-second-column = refl;

@@ -58,13 +58,6 @@ little-append [] b = omega arith
 little-append (x ∷ a) b =
     omega (arith, little-append a b, ap (λ (k : ℕ). k * little b) (pow-succ' 256 (length a)), mul-assoc 256 (256 ^ length a) (little b))
 
-little-below : (n : ℕ) (s : List ℕ) → ((i : ℕ) → getD s i 0 < 256) → little (take n s) < 256 ^ n
-unfolding little
-little-below zero s small = lit< tt
-little-below (suc n) [] small = pow-pos (suc n)
-little-below (suc n) (b ∷ s) small =
-    omega (arith, small 0, little-below n s (λ i. small (suc i)), pow-succ' 256 n)
-
 -- the bytes in the parts of a part
 little-split : (m n : ℕ) (s : List ℕ) (at : ℕ) → at + m ≤ length s → little (take (m + n) (drop at s)) ≡ little (take m (drop at s)) + 256 ^ m * little (take n (drop (at + m) s))
 little-split m n s at h =
@@ -81,13 +74,6 @@ module _ (n : ℕ) (s : List ℕ) (at : ℕ) where
   pub number-outside : length s < at + n → numberAt n s at ≡ 0
   unfolding numberAt
   number-outside h = simp (lt-leb _ _ h)
-
-  pub number-below : ((i : ℕ) → getD s i 0 < 256) → numberAt n s at < 256 ^ n
-  unfolding numberAt
-  number-below small =
-      choose-elim (λ (v : ℕ). v < 256 ^ n) (leb (at + n) (length s)) _ _
-      (λ e. little-below n (drop at s) (λ i. rw (getD-drop at s i 0) (small (at + i))))
-      (λ e. pow-pos n)
 
 pub number-split : (m n : ℕ) (s : List ℕ) (at : ℕ) → at + (m + n) ≤ length s → numberAt (m + n) s at ≡ numberAt m s at + 256 ^ m * numberAt n s (at + m)
 number-split m n s at h =
@@ -112,10 +98,6 @@ little-four s at h =
 pub number-four : (s : List ℕ) (at : ℕ) → at + 4 ≤ length s → getD s at 0 + getD s (at + 1) 0 * 256 + getD s (at + 2) 0 * 65536 + getD s (at + 3) 0 * 16777216 ≡ numberAt 4 s at
 number-four s at h = little-four s at h ∙ sym (number-inside 4 s at h)
 
--- eight bytes by their halves
-pub little-eight : (s : List ℕ) (at : ℕ) → at + 8 ≤ length s → little (take 4 (drop at s)) + 4294967296 * little (take 4 (drop (at + 4) s)) ≡ little (take 8 (drop at s))
-little-eight s at h = sym (little-split 4 4 s at (omega arith))
-
 -- the bytes of a number are below 256
 abbrev pub FourBytes : List ℕ → ℕ → Type 0
 FourBytes s at = (getD s at 0 < 256) × (getD s (at + 1) 0 < 256) × (getD s (at + 2) 0 < 256) × (getD s (at + 3) 0 < 256)
@@ -135,10 +117,6 @@ module _ (s : List ℕ) (at : ℕ) where
 
     pub written-length : length (written s at new) ≡ length s
     written-length = simp (length-append, length-drop, size) (omega arith)
-
-    -- what was written stands there
-    pub written-there : take (length new) (drop at (written s at new)) ≡ new
-    written-there = ap (take (length new)) (drop-at (take at s) _ at size) ∙ take-at new _ (length new) refl
 
     -- what stands before the place stays
     pub written-before : (base len : ℕ) → base + len ≤ at → take len (drop base (written s at new)) ≡ take len (drop base s)
@@ -182,33 +160,6 @@ module _ (n : ℕ) (s : List ℕ) (at v : ℕ) where
       choose-elim (λ (l : List ℕ). length l ≡ length s) (leb (at + n) (length s)) _ _
       (λ e. written-length s at (bytes n v) (omega (arith, leb-true (at + n) (length s) e, bytes-length n v)))
       (λ e. refl)
-
-  -- what was written is read back
-  pub number-written : at + n ≤ length s → numberAt n (writtenAt n s at v) at ≡ v % 256 ^ n
-  number-written h =
-      let back : take n (drop at (written s at (bytes n v))) ≡ bytes n v =
-      subst (λ (k : ℕ). take k (drop at (written s at (bytes n v))) ≡ bytes n v) (bytes-length n v) (written-there s at (bytes n v) (omega (arith, bytes-length n v))) in
-      number-inside n (writtenAt n s at v) at (omega (arith, writes-length))
-      ∙ ap (λ (l : List ℕ). little (take n (drop at l))) (writes-inside h)
-      ∙ ap little back
-      ∙ little-bytes n v
-
-  -- numbers before it and behind it are read as they were
-  module _ (k p : ℕ) where
-    unchanged : (at + n ≤ length s → take k (drop p (written s at (bytes n v))) ≡ take k (drop p s)) → numberAt k (writtenAt n s at v) p ≡ numberAt k s p
-    unfolding numberAt writtenAt
-    unchanged same = rw writes-length
-        (ap (λ (x : ℕ). choose (leb (p + k) (length s)) x 0)
-        (choose-elim (λ (l : List ℕ). little (take k (drop p l)) ≡ little (take k (drop p s))) (leb (at + n) (length s)) _ _
-        (λ e. ap little (same (leb-true _ _ e)))
-        (λ e. refl)))
-
-    pub number-before : p + k ≤ at → numberAt k (writtenAt n s at v) p ≡ numberAt k s p
-    number-before h = unchanged (λ room. written-before s at (bytes n v) (omega (arith, bytes-length n v)) p k h)
-
-    pub number-behind : at + n ≤ p → numberAt k (writtenAt n s at v) p ≡ numberAt k s p
-    number-behind h =
-        unchanged (λ room. ap (take k) (written-behind s at (bytes n v) (omega (arith, bytes-length n v)) p (omega (arith, bytes-length n v))))
 
 -- n bytes behind m bytes
 module _ (m n : ℕ) (s : List ℕ) (at v : ℕ) (h : at + (m + n) ≤ length s) where
