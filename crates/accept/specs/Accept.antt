@@ -8,7 +8,7 @@ use lib.Dec.{eqb}
 use Rattle.numbers.specs.Choose.{choose}
 use Rattle.fields.specs.declared.part.Part.{Part}
 use Rattle.wire.specs.declared.record.WireBlock.{WireBlock}
-use Rattle.fields.specs.Outcome.{Outcome, kept, refused, onward}
+use Rattle.fields.specs.Outcome.{Outcome, refused, onward}
 use Rattle.lookup.specs.Lookup.{entryAt, isRecordInside}
 use Rattle.accept.specs.declared.check.Checked.{Checked}
 use Rattle.accept.specs.declared.check.Checked.the-variants as check

@@ -13,7 +13,7 @@ use Rattle.fields.specs.declared.slot.Rule.the-variants as rule
 use Rattle.fields.specs.declared.slot.Put.{Put}
 use Rattle.fields.specs.declared.slot.Put.the-variants as was
 use Rattle.fields.specs.Outcome.{Outcome, kept, refused}
-use Rattle.fields.specs.View.{Kind, scalar, column, submessage, bytes, Schema, Row, takes, put}
+use Rattle.fields.specs.View.{scalar, column, submessage, bytes, Schema, Row, takes, put}
 use Rattle.fields.specs.Schema.{row}
 
 -- A field's place in the array is its number, but field 20 changes places with field 7, which no message here has, so that the array is

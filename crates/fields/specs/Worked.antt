@@ -1,11 +1,13 @@
 -- Worked values: what the definitions here say of concrete bytes, one row for each clause of document 01, section 2, that they carry. They are
 -- proved by computing, so a definition that is changed breaks the row of its clause, whatever the code does. Bytes are hexadecimal.
-use Prim.Native.Nat.{ℕ, _-_, _^_}
+use Prim.Native.Nat.{ℕ, _+_, _-_, _*_, _^_}
 use mathlib.Core.Path.{_≡_, refl}
-use mathlib.Core.List.{List, [], _∷_}
+use mathlib.Core.List.{List, [], _∷_, map}
 use mathlib.Core.Bool.{false}
 use lib.ListN.{replicate}
 use Rattle.protobuf.specs.declared.refusal.Refusal.the-variants.{VarintCut, VarintLong, TagValue, WireType, PastEnd, GroupDepth, Granularity, SecondColumn, SecondInfo, Outside}
+use Rattle.numbers.specs.Choose.{choose}
+use Rattle.protobuf.specs.Refusal.{number}
 use Rattle.protobuf.specs.Read.{andThen}
 use Rattle.protobuf.specs.Varint.{digits, varint}
 use Rattle.protobuf.specs.Tag.{legal, tag, tagAt}
@@ -16,14 +18,48 @@ use Rattle.fields.specs.declared.part.Part.{Part}
 use Rattle.fields.specs.Outcome.{Outcome, kept, refused, onward, each}
 use Rattle.fields.specs.Part.{partBy, noPart, moved, bytesOf, standsAt}
 use Rattle.fields.specs.Parts.{partsOf, messagesOf}
-use Rattle.fields.specs.View.{Schema, columnPart, infoPart, put, store, viewFrom, view, viewIn}
-use Rattle.fields.specs.Schema.{primitiveBlock, stringTable, node, way, denseNodes}
+use Rattle.fields.specs.View.{Schema, Slots, columnPart, infoPart, put, store, viewFrom, view, viewIn}
+use Rattle.fields.specs.Schema.{primitiveBlock, stringTable, node, way, relation, denseNodes, denseInfo, info}
 
 -- the part that stands for field k of a message
 abbrev partIn : Schema → List ℕ → ℕ → Outcome Part
 partIn schema s k = each (λ slots. slots k .part) (view schema s)
 
+-- ---- what a schema makes of a field below 16, tried twice as a number and twice as bytes: present or not, or the refusal's number
+
+abbrev told : ℕ → Outcome Slots → ℕ
+told k (kept slots) = choose (slots k .part .present) 1 0
+told k (refused r) = number r
+
+abbrev tried : Schema → ℕ → ℕ × ℕ
+tried schema k =
+    let one = k * 8 in
+    let packed = k * 8 + 2 in
+    (told k (view schema (one ∷ 0x01 ∷ one ∷ 0x01 ∷ [])), told k (view schema (packed ∷ 0x01 ∷ 0x01 ∷ packed ∷ 0x01 ∷ 0x01 ∷ [])))
+
+abbrev kinds : Schema → List (ℕ × ℕ)
+kinds schema = map (tried schema) (1 ∷ 2 ∷ 3 ∷ 4 ∷ 5 ∷ 6 ∷ 7 ∷ 8 ∷ 9 ∷ 10 ∷ 11 ∷ [])
+
+abbrev aNumber : ℕ × ℕ
+aNumber = (1, 0)
+
+abbrev aColumn : ℕ × ℕ
+aColumn = (9, 9)
+
+abbrev aMessage : ℕ × ℕ
+aMessage = (0, 10)
+
+abbrev unread : ℕ × ℕ
+unread = (0, 0)
+
 pub record Worked : Type 0 where
+  -- each message's fields by their numbers, beside osmformat.proto: 1 to 11
+  pub node-kinds : kinds node ≡ aNumber ∷ aColumn ∷ aColumn ∷ aMessage ∷ unread ∷ unread ∷ unread ∷ aNumber ∷ aNumber ∷ unread ∷ unread ∷ []
+  pub way-kinds : kinds way ≡ aNumber ∷ aColumn ∷ aColumn ∷ aMessage ∷ unread ∷ unread ∷ unread ∷ aColumn ∷ aColumn ∷ aColumn ∷ unread ∷ []
+  pub relation-kinds : kinds relation ≡ aNumber ∷ aColumn ∷ aColumn ∷ aMessage ∷ unread ∷ unread ∷ unread ∷ aColumn ∷ aColumn ∷ aColumn ∷ unread ∷ []
+  pub dense-nodes-kinds : kinds denseNodes ≡ aColumn ∷ unread ∷ unread ∷ unread ∷ aMessage ∷ unread ∷ unread ∷ aColumn ∷ aColumn ∷ aColumn ∷ unread ∷ []
+  pub dense-info-kinds : kinds denseInfo ≡ aColumn ∷ aColumn ∷ aColumn ∷ aColumn ∷ aColumn ∷ aColumn ∷ unread ∷ unread ∷ unread ∷ unread ∷ unread ∷ []
+  pub info-kinds : kinds info ≡ aNumber ∷ aNumber ∷ aNumber ∷ aNumber ∷ aNumber ∷ aNumber ∷ unread ∷ unread ∷ unread ∷ unread ∷ unread ∷ []
   -- a pair of field and wire type that no row has is passed over: id as bytes, keys of 4 bytes, info as a number, field 7; pins as a number
   pub pins-number : partIn way (0xA0 ∷ 0x01 ∷ 0x05 ∷ []) 20 ≡ kept noPart
   -- ids: zigzag of a node, two's complement of ways and relations; of numbers and of pins the last one stands
@@ -80,6 +116,12 @@ pub worked : Worked
 unfolding andThen digits varint legal tag tagAt rawVarint fixed counted lengthDelimited valueBy fieldIn fieldsOf groupBy payload unrolled fieldAt messageFrom onward each columnPart infoPart put store viewFrom view viewIn partsOf messagesOf bytesOf
 worked =
     record {
+      node-kinds = refl;
+      way-kinds = refl;
+      relation-kinds = refl;
+      dense-nodes-kinds = refl;
+      dense-info-kinds = refl;
+      info-kinds = refl;
       pins-number = refl;
       pins-last = refl;
       pins-last-empty = refl;

@@ -3,7 +3,7 @@
 use Prim.Native.Nat.{ℕ, _-_, _^_}
 use mathlib.Core.Bool.{true, false}
 use mathlib.Core.Path.{_≡_, refl}
-use mathlib.Core.List.{List, [], _∷_}
+use mathlib.Core.List.{[], _∷_}
 use lib.IntN.{pos, negsuc}
 use Rattle.numbers.specs.Signed.{residue}
 use Rattle.fields.specs.Part.{partBy, noPart}

@@ -1,9 +1,9 @@
 -- Worked values: what the definitions here say of concrete numbers, at both ends of each width. They are proved by computing, so a definition
 -- that is changed breaks the row of its clause, whatever the code does.
-use Prim.Native.Nat.{ℕ, _+_, _-_, _^_}
+use Prim.Native.Nat.{_+_, _-_, _^_}
 use mathlib.Core.Path.{_≡_, refl}
 use mathlib.Core.Bool.{true, false}
-use mathlib.Core.List.{List, [], _∷_, map}
+use mathlib.Core.List.{[], _∷_, map}
 use lib.IntN.{pos, negsuc}
 use Rattle.numbers.specs.Signed.{signed, twos, unzigzag, zigzag, residue, wrap, wrappingAdd, wrappingMul, nanodegreesOf, isInt32}
 use Rattle.numbers.specs.Little.{little, bytes, numberAt, writtenAt}

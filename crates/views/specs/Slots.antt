@@ -1,5 +1,4 @@
 -- The slots of a message as the loop keeps them, in an array, for each of the six views.
-use Prim.Native.Nat.{ℕ}
 use mathlib.Core.List.{List}
 use lib.ListN.{getD}
 use Rattle.views.specs.declared.slots.View.{View}

@@ -6,7 +6,6 @@ use mathlib.Core.Path.{_≡_, refl}
 use mathlib.Core.List.{List, [], _∷_}
 use lib.ListN.{length}
 use lib.IntN.{ℤ, pos, negsuc}
-use Rattle.protobuf.specs.declared.refusal.Refusal.the-variants.{VarintCut, PastEnd, Granularity, SecondColumn, SecondInfo, Outside}
 use Rattle.protobuf.specs.Read.{andThen}
 use Rattle.protobuf.specs.Varint.{digits, varint}
 use Rattle.protobuf.specs.Tag.{legal, tag, tagAt}
@@ -23,11 +22,11 @@ use Rattle.views.specs.declared.info.WireInfo.{WireInfo}
 use Rattle.views.specs.declared.info.Number32.{Number32}
 use Rattle.views.specs.declared.info.Number64.{Number64}
 use Rattle.views.specs.declared.info.Flag.{Flag}
-use Rattle.fields.specs.Outcome.{Outcome, kept, refused, onward, each}
-use Rattle.fields.specs.Part.{partBy, noPart, moved, bytesOf, standsAt}
+use Rattle.fields.specs.Outcome.{Outcome, kept, onward, each}
+use Rattle.fields.specs.Part.{partBy, noPart, bytesOf}
 use Rattle.fields.specs.Parts.{partsOf, messagesOf}
 use Rattle.fields.specs.View.{columnPart, infoPart, put, store, viewFrom, view, viewIn}
-use Rattle.fields.specs.Schema.{primitiveBlock, stringTable, node, way, relation, denseNodes, denseInfo, info}
+use Rattle.fields.specs.Schema.{node, way, relation, denseNodes, denseInfo, info}
 use Rattle.views.specs.Node.{nodeAt}
 use Rattle.views.specs.Way.{wayAt}
 use Rattle.views.specs.Relation.{relationAt}

@@ -18,7 +18,7 @@ use Rattle.protobuf.specs.Tag.{tagAt}
 use Rattle.protobuf.specs.Stream.{end, more, unrolled, mapped}
 use Rattle.protobuf.specs.Column.{ended, cut, Column, valueAt, columnFrom, int32s, sint64s}
 use Rattle.fields.specs.declared.part.Part.{Part}
-use Rattle.fields.specs.Outcome.{Outcome, kept, refused, onward, each}
+use Rattle.fields.specs.Outcome.{Outcome, kept, onward, each}
 use Rattle.fields.specs.Part.{noPart, bytesIn}
 use Rattle.fields.specs.Parts.{messagesOf}
 use Rattle.fields.specs.View.{Slots, empty, viewFrom, view}

@@ -1,5 +1,5 @@
 -- A column read whole: the values that a reader has passed, counted, and those before it are all of its values.
-use Prim.Native.Nat.{ℕ, _+_, _≤_, _<_}
+use Prim.Native.Nat.{ℕ, _+_, _≤_}
 use mathlib.Core.Path.{_≡_, refl, sym, ap, _∙_}
 use mathlib.Core.List.{List}
 use native.Mathlib.Nat.{zero-add, add-assoc}

@@ -10,7 +10,6 @@ use lib.ListN.{length, take}
 use lib.Seq.{length-take-le}
 use lib.Dec.{leb}
 use borrow.Author.Tests.{leb-true, le-leb, lt-ltb, le-ltb}
-use Rattle.protobuf.specs.declared.refusal.Refusal.{Refusal}
 use Rattle.protobuf.specs.declared.refusal.Refusal.the-variants.{Outside}
 use Rattle.protobuf.specs.declared.column.Column as state
 use Rattle.protobuf.specs.declared.column.Step.{Step}

@@ -8,11 +8,10 @@ use native.Mathlib.Omega.{arith}
 use lib.Arith.{mod-mul, digits-div, digits-mod}
 use lib.Dec.{lit<, leb}
 use lib.ListN.{length, getD, set, take, drop, length-append, length-drop, take-append-drop}
-use lib.Seq.{drop-cons, drop-drop, take-add, take-take, take-at, drop-at, length-take-le, getD-drop, sets-eq}
+use lib.Seq.{drop-cons, drop-drop, take-add, take-take, take-at, drop-at, length-take-le, sets-eq}
 use borrow.Author.Tests.{leb-true, le-leb, lt-leb}
 use mir.Syntax.{w8}
 use mir.Val.{Fits}
-use Rattle.numbers.specs.Choose.{choose}
 use Rattle.numbers.specs.Little.{little, bytes, numberAt, written, writtenAt}
 use Rattle.numbers.proofs.laws.Choose.{choose-elim}
 use Rattle.numbers.proofs.laws.Choose.{drop-take}

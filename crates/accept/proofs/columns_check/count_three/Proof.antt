@@ -2,7 +2,6 @@
 use borrow.Author.Needs.{needs}
 use mathlib.Core.Path.{_∙_}
 use Rattle.block.specs.Check.{agreed}
-use Rattle.columns.specs.Counts.{counted}
 use Rattle.columns.proofs.laws.Count.{counted-start}
 use Rattle.accept.proofs.columns_check.count_three.Statement.{statement}
 use Rattle.accept.proofs.columns_check.count_three.Tie as tie
