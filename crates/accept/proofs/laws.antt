@@ -1,6 +1,3 @@
 -- One file of laws for each subject.
-pub mod Pairs
-pub mod Whole
-pub mod Dense
 pub mod Group
 pub mod Accept

@@ -10,15 +10,8 @@ use Rattle.fields.specs.declared.part.Part.{Part}
 use Rattle.wire.specs.declared.record.WireBlock.{WireBlock}
 use Rattle.fields.specs.Outcome.{Outcome, refused, onward}
 use Rattle.lookup.specs.Lookup.{entryAt, isRecordInside}
-use Rattle.accept.specs.declared.check.Checked.{Checked}
-use Rattle.accept.specs.declared.check.Checked.the-variants as check
 use Rattle.block.specs.Check.{passed, all, checkNode, checkWay, checkRelation, checkGroup}
 use Rattle.fields.specs.Part.{isInside, bytesIn}
-
--- accepted, or a number
-abbrev pub checkOf : Checked → Outcome Unit
-checkOf check.Accepted = passed
-checkOf (check.Refused r) = refused r
 
 -- a message of a group, by its tag: 10 a node, 26 a way, 34 a relation
 abbrev pub elementOf : ℕ → List ℕ → Outcome Unit

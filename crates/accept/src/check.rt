@@ -7,20 +7,16 @@ ghost use mathlib.Core.Bool.{true};
 ghost use Rattle.lookup.specs.Lookup.{isRecordInside};
 ghost use Rattle.wire.specs.Scan.{Scanned-as};
 ghost use Rattle.block.specs.Check.{passed, all, checked};
-ghost use Rattle.accept.specs.Accept.{checkOf, groupsIn, insideOf, groupAtPart, checkedIn};
+ghost use Rattle.passes.specs.Checked.{checkOf};
+ghost use Rattle.accept.specs.Accept.{groupsIn, insideOf, groupAtPart, checkedIn};
 use crate::group_check::check_group;
 use fields::part::bytes_of;
 use lookup::by_number::GroupRange;
 use lookup::by_number::group;
 use lookup::by_number::is_inside;
+use passes::checked::Checked;
 use protobuf::refusal::Refusal;
 use wire::record::WireBlock;
-
-// What the check says of a block. What else may be said of one gets a case of its own.
-pub enum Checked {
-    Accepted,
-    Refused(Refusal),
-}
 
 // 14 where an entry of the group table names a range that passes the buffer.
 fn check_ranges(buffer: &[u8], block: WireBlock) -> Checked

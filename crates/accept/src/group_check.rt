@@ -4,14 +4,10 @@ ghost use mathlib.Core.List.{[], _∷_};
 ghost use Prim.Native.Nat.{_/_, _%_};
 ghost use Rattle.numbers.specs.Choose.{choose};
 ghost use Rattle.block.specs.Check.{all, checkDense, checkLoose, checkGroup};
-ghost use Rattle.accept.specs.Accept.{checkOf, elementOf};
+ghost use Rattle.passes.specs.Checked.{checkOf};
+ghost use Rattle.accept.specs.Accept.{elementOf};
 ghost use Rattle.fields.specs.Part.{bytesOf};
 ghost use Rattle.fields.specs.Parts.{messagesOf};
-use crate::check::Checked;
-use crate::dense_check::check_dense;
-use crate::element_check::check_node;
-use crate::element_check::check_relation;
-use crate::element_check::check_way;
 use fields::part::Part;
 use fields::part::bytes_of;
 use fields::schema::primitive_group::NODE;
@@ -19,8 +15,13 @@ use fields::schema::primitive_group::RELATION;
 use fields::schema::primitive_group::WAY;
 use groups::group::DenseFound;
 use groups::group::dense;
-use protobuf::message::Field;
-use protobuf::message::next_field;
+use message::field::Field;
+use message::field::next_field;
+use passes::checked::Checked;
+use passes::dense_check::check_dense;
+use passes::element_check::check_node;
+use passes::element_check::check_relation;
+use passes::element_check::check_way;
 
 // A message of a group, by its tag.
 fn check_element(s: &[u8], tag: u32) -> Checked

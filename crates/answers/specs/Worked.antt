@@ -11,9 +11,9 @@ use Rattle.numbers.specs.Little.{little, bytes, numberAt}
 use Rattle.numbers.specs.Signed.{signed, twos, residue}
 use Rattle.protobuf.specs.Varint.{digits, varint}
 use Rattle.protobuf.specs.Tag.{legal, tag, tagAt}
-use Rattle.protobuf.specs.Payload.{rawVarint, fixed, counted, lengthDelimited, valueBy, fieldIn, fieldsOf, groupBy, payload}
+use Rattle.message.specs.Payload.{rawVarint, fixed, counted, lengthDelimited, valueBy, fieldIn, fieldsOf, groupBy, payload}
 use Rattle.protobuf.specs.Stream.{unrolled}
-use Rattle.protobuf.specs.Message.{fieldAt, messageFrom}
+use Rattle.message.specs.Message.{fieldAt, messageFrom}
 use Rattle.fields.specs.declared.part.Part.{Part}
 use Rattle.fields.specs.Outcome.{kept, refused}
 use Rattle.fields.specs.Part.{partBy, noPart}

@@ -5,7 +5,7 @@ use mathlib.Core.List.{List, [], _∷_}
 use lib.Dec.{eqb}
 use Rattle.protobuf.specs.declared.refusal.Refusal.the-variants.{Counts}
 use Rattle.numbers.specs.Choose.{choose}
-use Rattle.protobuf.specs.Message.{message}
+use Rattle.message.specs.Message.{message}
 use Rattle.protobuf.specs.Column.{Column}
 use Rattle.fields.specs.declared.part.Part.{Part}
 use Rattle.fields.specs.Outcome.{Outcome, kept, refused, onward}

@@ -9,9 +9,9 @@ use lib.IntN.{pos, negsuc}
 use Rattle.protobuf.specs.Read.{andThen}
 use Rattle.protobuf.specs.Varint.{digits, varint}
 use Rattle.protobuf.specs.Tag.{legal, tag, tagAt}
-use Rattle.protobuf.specs.Payload.{rawVarint, fixed, counted, lengthDelimited, valueBy, fieldIn, fieldsOf, groupBy, payload}
+use Rattle.message.specs.Payload.{rawVarint, fixed, counted, lengthDelimited, valueBy, fieldIn, fieldsOf, groupBy, payload}
 use Rattle.protobuf.specs.Stream.{unrolled, mapped}
-use Rattle.protobuf.specs.Message.{fieldAt, messageFrom}
+use Rattle.message.specs.Message.{fieldAt, messageFrom}
 use Rattle.numbers.specs.Signed.{signed, twos, unzigzag, zigzag, residue, wrap}
 use Rattle.protobuf.specs.Column.{valueAt, columnFrom, sumsFrom}
 use Rattle.fields.specs.Outcome.{onward, each}

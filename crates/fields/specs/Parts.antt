@@ -5,7 +5,7 @@ use mathlib.Core.Bool.{Bool, false}
 use lib.Dec.{eqb}
 use Rattle.numbers.specs.Choose.{choose}
 use Rattle.protobuf.specs.Stream.{end, more}
-use Rattle.protobuf.specs.Message.{Field, Message, message}
+use Rattle.message.specs.Message.{Field, Message, message}
 use Rattle.fields.specs.declared.part.Part.{Part}
 use Rattle.fields.specs.Part.{partBy, bytesIn}
 

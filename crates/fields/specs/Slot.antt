@@ -5,7 +5,7 @@ use mathlib.Core.List.{List, [], _∷_}
 use mathlib.Core.Bool.{false}
 use lib.Dec.{eqb}
 use Rattle.numbers.specs.Choose.{choose}
-use Rattle.protobuf.specs.Payload.{Payload}
+use Rattle.message.specs.Payload.{Payload}
 use Rattle.protobuf.specs.Tag.{Tag}
 use Rattle.fields.specs.declared.slot.Slot.{Slot}
 use Rattle.fields.specs.declared.slot.Rule.{Rule}

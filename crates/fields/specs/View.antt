@@ -9,9 +9,9 @@ use lib.Dec.{eqb, leb}
 use Rattle.protobuf.specs.declared.refusal.Refusal.the-variants.{Granularity, SecondColumn, SecondInfo, Outside}
 use Rattle.numbers.specs.Choose.{choose}
 use Rattle.numbers.specs.Signed.{isInt32}
-use Rattle.protobuf.specs.Payload.{Payload}
+use Rattle.message.specs.Payload.{Payload}
 use Rattle.protobuf.specs.Stream.{end, more}
-use Rattle.protobuf.specs.Message.{Field, complete, cut, spoilt, Message, message}
+use Rattle.message.specs.Message.{Field, complete, cut, spoilt, Message, message}
 use Rattle.fields.specs.declared.part.Part.{Part}
 use Rattle.fields.specs.declared.slot.Slot.{Slot}
 use Rattle.fields.specs.Outcome.{Outcome, kept, refused, onward, each}

@@ -1,6 +1,6 @@
 // A field's slot: the number that was read last and the part that stands for the field; and what one occurrence of the field does to it.
 ghost use mathlib.Core.Path.{_≡_};
-ghost use Rattle.protobuf.specs.Payload.{payloadOf};
+ghost use Rattle.message.specs.Payload.{payloadOf};
 ghost use Rattle.fields.specs.View.{column, submessage, put};
 ghost use Rattle.fields.specs.Slot.{putBy, putOf, placeOf};
 use crate::part::Part;

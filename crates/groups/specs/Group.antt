@@ -8,7 +8,7 @@ use Rattle.protobuf.specs.declared.refusal.Refusal.the-variants.{SecondDense, O
 use Rattle.numbers.specs.Choose.{choose}
 use Rattle.protobuf.specs.Tag.{Tag}
 use Rattle.protobuf.specs.Stream.{end, more}
-use Rattle.protobuf.specs.Message.{Field, complete, cut, spoilt, Message, message, messageFrom}
+use Rattle.message.specs.Message.{Field, complete, cut, spoilt, Message, message, messageFrom}
 use Rattle.fields.specs.declared.part.Part.{Part}
 use Rattle.groups.specs.declared.group.DenseFound.{DenseFound}
 use Rattle.groups.specs.declared.group.DenseFound.the-variants as dense

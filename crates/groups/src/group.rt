@@ -5,8 +5,8 @@ ghost use Prim.Native.Nat.{_+_, _/_, _%_, _^_, _<_};
 ghost use lib.Dec.{eqb};
 ghost use Rattle.numbers.specs.Choose.{choose};
 ghost use Rattle.protobuf.specs.Tag.{split};
-ghost use Rattle.protobuf.specs.Message.{message, messageFrom};
-ghost use Rattle.protobuf.specs.Answers.{fieldBy};
+ghost use Rattle.message.specs.Message.{message, messageFrom};
+ghost use Rattle.message.specs.Answers.{fieldBy};
 ghost use Rattle.fields.specs.Outcome.{refused, each};
 ghost use Rattle.fields.specs.Part.{noPart, moved};
 ghost use Rattle.groups.specs.Group.{denseTag, denseField, denseFrom, denseIn, foundDense, firstPart, freshIter, messageAt, messageStep};
@@ -14,8 +14,8 @@ use fields::part::NONE;
 use fields::part::Part;
 use fields::part::part_fits;
 use fields::schema::primitive_group::DENSE;
-use protobuf::message::Field;
-use protobuf::message::next_field;
+use message::field::Field;
+use message::field::next_field;
 use protobuf::refusal::Refusal;
 
 pub enum DenseFound {

@@ -9,7 +9,7 @@ use lib.Dec.{leb, ltb}
 use Rattle.protobuf.specs.declared.refusal.Refusal.the-variants.{Outside}
 use Rattle.numbers.specs.Choose.{choose}
 use Rattle.numbers.specs.Little.{numberAt}
-use Rattle.protobuf.specs.Message.{message}
+use Rattle.message.specs.Message.{message}
 use Rattle.fields.specs.declared.part.Part.{Part}
 use Rattle.wire.specs.declared.record.WireBlock.{WireBlock}
 use Rattle.wire.specs.Block.{chosenTable}

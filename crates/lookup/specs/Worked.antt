@@ -9,9 +9,9 @@ use Rattle.protobuf.specs.declared.refusal.Refusal.the-variants.{Outside}
 use Rattle.protobuf.specs.Read.{andThen}
 use Rattle.protobuf.specs.Varint.{digits, varint}
 use Rattle.protobuf.specs.Tag.{legal, tag, tagAt}
-use Rattle.protobuf.specs.Payload.{rawVarint, fixed, counted, lengthDelimited, valueBy, fieldIn, fieldsOf, groupBy, payload}
+use Rattle.message.specs.Payload.{rawVarint, fixed, counted, lengthDelimited, valueBy, fieldIn, fieldsOf, groupBy, payload}
 use Rattle.protobuf.specs.Stream.{unrolled}
-use Rattle.protobuf.specs.Message.{fieldAt, messageFrom}
+use Rattle.message.specs.Message.{fieldAt, messageFrom}
 use Rattle.numbers.specs.Little.{little, numberAt}
 use Rattle.fields.specs.Part.{partBy}
 use Rattle.fields.specs.Parts.{partsOf}

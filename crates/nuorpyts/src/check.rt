@@ -7,11 +7,11 @@ ghost use Rattle.block.specs.Check.{checked};
 ghost use Rattle.answers.specs.Codes.{codeOf};
 ghost use Rattle.nuorpyts.specs.Block.{Scanned-in};
 ghost use Rattle.nuorpyts.specs.Check.{checkCode};
-use accept::check::Checked;
 use accept::check::check;
 use answers::codes::OUTSIDE;
 use answers::record::RecordIn;
 use answers::record::record_in;
+use passes::checked::Checked;
 use protobuf::refusal::number;
 
 // Whether a scanned block may be walked: 0 where it may. 14 first where `rec` is no record; then the check's refusals. On the buffer and

@@ -3,10 +3,6 @@ pub mod Place
 pub mod Read
 pub mod Varint
 pub mod Tag
-pub mod Payload
-pub mod Group
 pub mod Stream
-pub mod Message
 pub mod Column
 pub mod Part
-pub mod Within

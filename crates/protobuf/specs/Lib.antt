@@ -3,9 +3,7 @@ pub mod Refusal
 pub mod Read
 pub mod Varint
 pub mod Tag
-pub mod Payload
 pub mod Stream
-pub mod Message
 pub mod Column
 pub mod Answers
 pub mod Worked

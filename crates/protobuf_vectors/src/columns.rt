@@ -8,13 +8,13 @@ use crate::out::named;
 use crate::out::named_signed;
 use crate::out::refused;
 use crate::out::text;
+use message::payload::Payload;
+use message::payload::read_len_delimited;
 use numbers::signed::wrapping_add_i64;
 use numbers::signed::zigzag_i64;
 use protobuf::column::Column;
 use protobuf::column::Step;
 use protobuf::column::next_value;
-use protobuf::payload::Payload;
-use protobuf::payload::read_len_delimited;
 
 // Where a reader goes on, or that it has ended.
 enum Going {

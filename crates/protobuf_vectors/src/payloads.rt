@@ -6,10 +6,10 @@ use crate::out::input_at;
 use crate::out::named;
 use crate::out::refused;
 use crate::out::text;
-use protobuf::payload::Payload;
-use protobuf::payload::read_len_delimited;
-use protobuf::payload::read_payload;
-use protobuf::payload::read_raw_varint;
+use message::payload::Payload;
+use message::payload::read_len_delimited;
+use message::payload::read_payload;
+use message::payload::read_raw_varint;
 use protobuf::tag::Tag;
 use protobuf::tag::read_tag;
 

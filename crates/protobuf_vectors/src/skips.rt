@@ -6,8 +6,8 @@ use crate::out::input_at;
 use crate::out::named;
 use crate::out::refused;
 use crate::out::text;
-use protobuf::payload::Skip;
-use protobuf::payload::skip_field;
+use message::payload::Skip;
+use message::payload::skip_field;
 use protobuf::tag::Tag;
 use protobuf::tag::read_tag;
 

@@ -11,14 +11,14 @@ use crate::text::put_size;
 use crate::text::refuse;
 use crate::text::stop_steps;
 use crate::text::whole;
+use message::field::Field;
+use message::field::next_field;
 use numbers::signed::int32;
 use numbers::signed::zigzag_i32;
 use numbers::signed::zigzag_i64;
 use protobuf::column::Column;
 use protobuf::column::Step;
 use protobuf::column::next_value;
-use protobuf::message::Field;
-use protobuf::message::next_field;
 use protobuf::varint::Varint;
 use protobuf::varint::read_varint;
 

@@ -20,8 +20,8 @@ use fields::slot::Rule;
 use fields::slot::Slot;
 use fields::slot::place;
 use fields::slot::put_slot;
-use protobuf::message::Field;
-use protobuf::message::next_field;
+use message::field::Field;
+use message::field::next_field;
 use protobuf::refusal::Refusal;
 
 // A place that no field here has by its number: so eleven slots suffice for every message.

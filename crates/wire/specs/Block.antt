@@ -8,7 +8,7 @@ use Rattle.wire.specs.declared.primitive_block.BlockStored.the-variants 
 use Rattle.fields.specs.Outcome.{Outcome, kept, refused}
 use Rattle.fields.specs.declared.slot.Slot.{Slot}
 use Rattle.fields.specs.View.{Slots}
-use Rattle.protobuf.specs.Message.{message}
+use Rattle.message.specs.Message.{message}
 use Rattle.fields.specs.declared.part.Part.{Part}
 use Rattle.fields.specs.Part.{noPart}
 use Rattle.fields.specs.Parts.{partsOf}

@@ -9,7 +9,7 @@ use Rattle.protobuf.specs.declared.refusal.Refusal.the-variants.{BlockTooLong, 
 use Rattle.numbers.specs.Choose.{choose}
 use Rattle.numbers.specs.Signed.{twos}
 use Rattle.numbers.specs.Little.{written}
-use Rattle.protobuf.specs.Message.{message}
+use Rattle.message.specs.Message.{message}
 use Rattle.wire.specs.declared.record.WireBlock.{WireBlock}
 use Rattle.wire.specs.declared.primitive_block.BlockFields.{BlockFields}
 use Rattle.wire.specs.declared.scan.Count.{Count}

@@ -7,7 +7,7 @@ use lib.ListN.{length, take, drop}
 use Rattle.numbers.specs.Choose.{choose}
 use Rattle.numbers.specs.Little.{bytes}
 use Rattle.protobuf.specs.Stream.{end, more}
-use Rattle.protobuf.specs.Message.{Message, message}
+use Rattle.message.specs.Message.{Message, message}
 use Rattle.fields.specs.Parts.{isPart}
 
 abbrev pub entry : ℕ → ℕ → List ℕ

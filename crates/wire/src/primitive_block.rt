@@ -1,7 +1,7 @@
 // PrimitiveBlock: the block's own fields.
 ghost use mathlib.Core.Path.{_≡_};
 ghost use Prim.Native.Nat.{_+_, _^_, _≤_, _<_};
-ghost use Rattle.protobuf.specs.Answers.{fieldBy};
+ghost use Rattle.message.specs.Answers.{fieldBy};
 ghost use Rattle.fields.specs.Outcome.{each};
 ghost use Rattle.fields.specs.View.{Slots, store, view};
 ghost use Rattle.fields.specs.Schema.{primitiveBlock};
@@ -9,9 +9,9 @@ ghost use Rattle.wire.specs.Block.{blockFields, keptBlock, groupsOf};
 use fields::part::NONE;
 use fields::part::Part;
 use fields::schema::primitive_block;
+use message::field::Field;
+use message::field::next_field;
 use numbers::signed::is_int32;
-use protobuf::message::Field;
-use protobuf::message::next_field;
 use protobuf::refusal::Refusal;
 
 // The block's slots, numbers as read, with the defaults of a field that is missing.

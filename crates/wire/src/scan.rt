@@ -15,10 +15,10 @@ use crate::record::WireBlock;
 use crate::tables::write_entries;
 use fields::schema::primitive_block::GROUP;
 use fields::schema::string_table::STRINGS;
+use message::field::Field;
+use message::field::next_field;
 use numbers::signed::int32;
 use numbers::signed::int64;
-use protobuf::message::Field;
-use protobuf::message::next_field;
 use protobuf::refusal::Refusal;
 
 // The longest block that is scanned.

@@ -3,11 +3,11 @@ ghost use mathlib.Core.Path.{_≡_};
 ghost use Prim.Native.Nat.{_/_, _≤_};
 ghost use lib.ListN.{length, take, drop};
 ghost use Rattle.numbers.specs.Little.{written};
-ghost use Rattle.protobuf.specs.Message.{message};
+ghost use Rattle.message.specs.Message.{message};
 ghost use Rattle.wire.specs.Tables.{entry, entries, Room};
+use message::field::Field;
+use message::field::next_field;
 use numbers::little::write_u32;
-use protobuf::message::Field;
-use protobuf::message::next_field;
 
 // One entry, at the start of the tail that is lent: the lowest 4 bytes of each number, which are all that an offset or a length within a
 // block has.

@@ -11,9 +11,9 @@ use borrow.Author.Tests.{le-leb, ne-eqb}
 use Rattle.protobuf.specs.declared.refusal.Refusal.{Refusal}
 use Rattle.numbers.specs.Choose.{choose}
 use Rattle.protobuf.specs.Stream.{Item, last, item, follow}
-use Rattle.protobuf.specs.Message.{Field, MessageEnd, Message, message, messageFrom, fieldAt}
-use Rattle.protobuf.specs.Answers.{fieldBy}
-use Rattle.protobuf.proofs.laws.Message.{message-from, fields-forward, field-within}
+use Rattle.message.specs.Message.{Field, MessageEnd, Message, message, messageFrom, fieldAt}
+use Rattle.message.specs.Answers.{fieldBy}
+use Rattle.message.proofs.laws.Message.{message-from, fields-forward, field-within}
 use Rattle.fields.specs.declared.part.Part.{Part}
 use Rattle.fields.specs.Outcome.{Outcome, kept, refused, onward, each}
 use Rattle.fields.proofs.laws.Outcome.{each-kept, each-refused}

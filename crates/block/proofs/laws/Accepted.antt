@@ -24,7 +24,7 @@ use Rattle.fields.specs.Parts.{messagesOf}
 use Rattle.fields.specs.View.{Slots, empty, viewFrom, view}
 use Rattle.fields.specs.Schema.{relation, denseNodes, denseInfo}
 use Rattle.groups.specs.Group.{denseFrom}
-use Rattle.protobuf.specs.Message.{message, fieldAt, messageFrom}
+use Rattle.message.specs.Message.{message, fieldAt, messageFrom}
 use Rattle.fields.proofs.laws.Outcome.{each-kept, went, chosen}
 use Rattle.block.specs.Columns.{columnIn, countOf}
 use Rattle.block.specs.Tags.{Pair, NodePairs, takePairs, densePairs}

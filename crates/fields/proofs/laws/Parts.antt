@@ -11,15 +11,15 @@ use lib.Dec.{eqb}
 use denote.Enum.Declared.{tagOf}
 use types.Run.{OneOf}
 use borrow.Author.Tests.{eq-eqb, eqb-true}
-use Rattle.protobuf.specs.declared.message.Field as answer
-use Rattle.protobuf.specs.declared.message.Field.the-variants as variant
+use Rattle.message.specs.declared.field.Field as answer
+use Rattle.message.specs.declared.field.Field.the-variants as variant
 use Rattle.numbers.specs.Choose.{choose}
 use Rattle.protobuf.specs.Tag.{split}
 use Rattle.protobuf.specs.Stream.{last, item}
-use Rattle.protobuf.specs.Message.{Field, MessageEnd, complete, cut, spoilt, fieldAt}
-use Rattle.protobuf.specs.Answers.{fieldOf}
-use Rattle.protobuf.proofs.message.Field.{the-type}
-use Rattle.protobuf.proofs.laws.Message.{fields-forward}
+use Rattle.message.specs.Message.{Field, MessageEnd, complete, cut, spoilt, fieldAt}
+use Rattle.message.specs.Answers.{fieldOf}
+use Rattle.message.proofs.field.Field.{the-type}
+use Rattle.message.proofs.laws.Message.{fields-forward}
 
 -- only the tag of a message in field k is a part of field k
 module _ (tag : ℕ) (h : tag % 8 ≡ 2) (t : ℕ) where

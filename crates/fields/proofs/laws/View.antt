@@ -13,12 +13,12 @@ use Rattle.protobuf.specs.declared.refusal.Refusal.{Refusal}
 use Rattle.protobuf.specs.declared.refusal.Refusal.the-variants.{Granularity, Outside}
 use Rattle.numbers.specs.Choose.{choose}
 use Rattle.numbers.specs.Signed.{isInt32}
-use Rattle.protobuf.specs.Payload.{Payload, payloadOf}
+use Rattle.message.specs.Payload.{Payload, payloadOf}
 use Rattle.protobuf.specs.Stream.{Item, last, item, follow}
 use Rattle.protobuf.specs.Tag.{Tag, split}
-use Rattle.protobuf.specs.Message.{Field, MessageEnd, complete, cut, spoilt, fieldAt, messageFrom}
-use Rattle.protobuf.specs.Answers.{fieldBy}
-use Rattle.protobuf.proofs.laws.Message.{message-from, fields-forward}
+use Rattle.message.specs.Message.{Field, MessageEnd, complete, cut, spoilt, fieldAt, messageFrom}
+use Rattle.message.specs.Answers.{fieldBy}
+use Rattle.message.proofs.laws.Message.{message-from, fields-forward}
 use Rattle.fields.specs.Schema.{row}
 use Rattle.fields.specs.Slot.{ruleFor}
 use Rattle.fields.specs.Outcome.{Outcome, kept, refused, onward, each}

@@ -10,12 +10,12 @@ use lib.Dec.{eqb}
 use lib.ListN.{length}
 use Rattle.numbers.specs.Choose.{choose}
 use Rattle.numbers.specs.Signed.{isInt32}
-use Rattle.protobuf.specs.Payload.{Payload}
+use Rattle.message.specs.Payload.{Payload}
 use Rattle.protobuf.specs.Stream.{end, more}
-use Rattle.protobuf.specs.Message.{Field, complete, cut, spoilt, Message, message}
+use Rattle.message.specs.Message.{Field, complete, cut, spoilt, Message, message}
 use Rattle.numbers.proofs.laws.Choose.{choose-elim}
 use Rattle.protobuf.proofs.laws.Stream.{Every, this-and}
-use Rattle.protobuf.proofs.laws.Message.{all-within}
+use Rattle.message.proofs.laws.Message.{all-within}
 use Rattle.fields.specs.declared.part.Part.{Part}
 use Rattle.fields.specs.declared.slot.Slot.{Slot}
 use Rattle.fields.specs.Outcome.{kept}

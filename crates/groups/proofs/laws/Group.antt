@@ -13,10 +13,10 @@ use Rattle.protobuf.specs.declared.refusal.Refusal.the-variants.{SecondDense, O
 use Rattle.numbers.specs.Choose.{choose}
 use Rattle.protobuf.specs.Tag.{Tag, split}
 use Rattle.protobuf.specs.Stream.{end, more, Item, last, item, follow}
-use Rattle.protobuf.specs.Message.{Field, MessageEnd, complete, cut, spoilt, Message, message, messageFrom, fieldAt}
+use Rattle.message.specs.Message.{Field, MessageEnd, complete, cut, spoilt, Message, message, messageFrom, fieldAt}
 use Rattle.numbers.proofs.laws.Choose.{choose-elim}
 use Rattle.protobuf.proofs.laws.Stream.{Every, this-and}
-use Rattle.protobuf.proofs.laws.Message.{message-from, all-within}
+use Rattle.message.proofs.laws.Message.{message-from, all-within}
 use Rattle.fields.specs.declared.part.Part.{Part}
 use Rattle.fields.specs.Outcome.{Outcome, kept, refused, onward, each}
 use Rattle.fields.specs.Part.{noPart, partBy, moved}

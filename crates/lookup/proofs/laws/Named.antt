@@ -11,7 +11,7 @@ use lib.Seq.{take-at, drop-at}
 use Rattle.numbers.specs.Choose.{choose}
 use Rattle.numbers.specs.Little.{little, bytes, numberAt}
 use Rattle.protobuf.specs.Stream.{end, more}
-use Rattle.protobuf.specs.Message.{Field, Message}
+use Rattle.message.specs.Message.{Field, Message}
 use Rattle.numbers.proofs.laws.Little.{bytes-length, little-bytes, number-inside}
 use Rattle.protobuf.proofs.laws.Stream.{Every, this-and}
 use Rattle.fields.specs.declared.part.Part.{Part}

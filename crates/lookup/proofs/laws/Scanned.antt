@@ -9,9 +9,9 @@ use native.Mathlib.Omega.{arith}
 use lib.ListN.{length, take, drop, getElem?, length-append, length-map}
 use borrow.Author.Tests.{le-leb}
 use Rattle.numbers.specs.Little.{written}
-use Rattle.protobuf.specs.Message.{message}
+use Rattle.message.specs.Message.{message}
 use Rattle.numbers.proofs.laws.Little.{written-length, written-before}
-use Rattle.protobuf.proofs.laws.Message.{all-within}
+use Rattle.message.proofs.laws.Message.{all-within}
 use Rattle.fields.specs.declared.part.Part.{Part}
 use Rattle.fields.specs.Part.{bytesIn, moved}
 use Rattle.fields.specs.Parts.{partsOf}

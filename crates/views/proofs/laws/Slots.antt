@@ -11,13 +11,13 @@ use borrow.Author.Tests.{eqb-true, eqb-false, ltb-true}
 use Rattle.protobuf.specs.declared.refusal.Refusal.{Refusal}
 use Rattle.protobuf.specs.declared.refusal.Refusal.the-variants.{Outside, SecondColumn, SecondInfo}
 use Rattle.numbers.specs.Choose.{choose}
-use Rattle.protobuf.specs.Payload.{Payload, payloadOf}
+use Rattle.message.specs.Payload.{Payload, payloadOf}
 use Rattle.protobuf.specs.Stream.{Item, last, item, follow}
 use Rattle.protobuf.specs.Tag.{Tag, split}
-use Rattle.protobuf.specs.Message.{Field, MessageEnd, complete, cut, spoilt, fieldAt, messageFrom}
-use Rattle.protobuf.specs.Answers.{fieldBy}
+use Rattle.message.specs.Message.{Field, MessageEnd, complete, cut, spoilt, fieldAt, messageFrom}
+use Rattle.message.specs.Answers.{fieldBy}
 use Rattle.numbers.proofs.laws.Choose.{choose-elim}
-use Rattle.protobuf.proofs.laws.Message.{message-from}
+use Rattle.message.proofs.laws.Message.{message-from}
 use Rattle.fields.specs.declared.part.Part.{Part}
 use Rattle.fields.specs.declared.slot.Slot.{Slot}
 use Rattle.views.specs.declared.slots.Status.{Status}

@@ -9,11 +9,11 @@ use lib.ListN.{length, take, drop, length-append, length-drop}
 use lib.Seq.{length-take-le}
 use Rattle.numbers.specs.Choose.{choose}
 use Rattle.protobuf.specs.Stream.{Item, last, item, follow}
-use Rattle.protobuf.specs.Message.{Field, MessageEnd, message, messageFrom, fieldAt}
-use Rattle.protobuf.specs.Answers.{fieldBy}
+use Rattle.message.specs.Message.{Field, MessageEnd, message, messageFrom, fieldAt}
+use Rattle.message.specs.Answers.{fieldBy}
 use Rattle.numbers.specs.Little.{written}
 use Rattle.numbers.proofs.laws.Little.{written-none, written-length, written-before, written-twice}
-use Rattle.protobuf.proofs.laws.Message.{message-from, fields-forward, field-within}
+use Rattle.message.proofs.laws.Message.{message-from, fields-forward, field-within}
 use Rattle.fields.specs.Parts.{isPart}
 use Rattle.wire.specs.Tables.{entry, entries, Room}
 use Rattle.fields.proofs.laws.Parts.{own-tag, other-tag}

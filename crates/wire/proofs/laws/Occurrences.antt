@@ -8,9 +8,9 @@ use lib.ListN.{length}
 use lib.Dec.{eqb}
 use borrow.Author.Tests.{eqb-true, eq-eqb, ne-eqb}
 use Rattle.numbers.specs.Choose.{choose}
-use Rattle.protobuf.specs.Payload.{Payload}
+use Rattle.message.specs.Payload.{Payload}
 use Rattle.protobuf.specs.Stream.{end, more}
-use Rattle.protobuf.specs.Message.{Field, complete, cut, spoilt, Message, message}
+use Rattle.message.specs.Message.{Field, complete, cut, spoilt, Message, message}
 use Rattle.numbers.proofs.laws.Choose.{choose-elim}
 use Rattle.fields.specs.Outcome.{Outcome, kept, each}
 use Rattle.fields.specs.declared.slot.Slot.{Slot}

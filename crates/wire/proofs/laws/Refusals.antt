@@ -14,9 +14,9 @@ use Rattle.protobuf.specs.Read.{Read, taken, refused, andThen}
 use Rattle.numbers.specs.Choose.{choose}
 use Rattle.protobuf.specs.Varint.{digits, varint}
 use Rattle.protobuf.specs.Tag.{Tag, legal, tag, TagAt, due, tagAt, WireType, wireType, VARINT, I64, LEN, SGROUP, EGROUP, I32, reserved}
-use Rattle.protobuf.specs.Payload.{Payload, rawVarint, fixed, counted, lengthDelimited, valueBy, closes, fieldIn, fieldsOf, groupBy, payload}
+use Rattle.message.specs.Payload.{Payload, rawVarint, fixed, counted, lengthDelimited, valueBy, closes, fieldIn, fieldsOf, groupBy, payload}
 use Rattle.protobuf.specs.Stream.{end, more, follow, unrolled}
-use Rattle.protobuf.specs.Message.{Field, MessageEnd, complete, cut, spoilt, Message, message, messageFrom, withPayload, withTag, fieldAt}
+use Rattle.message.specs.Message.{Field, MessageEnd, complete, cut, spoilt, Message, message, messageFrom, withPayload, withTag, fieldAt}
 use Rattle.numbers.specs.Signed.{isInt32}
 use Rattle.numbers.proofs.laws.Choose.{choose-elim}
 use Rattle.fields.specs.declared.slot.Slot.{Slot}

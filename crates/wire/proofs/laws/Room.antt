@@ -13,14 +13,14 @@ use Rattle.protobuf.specs.declared.refusal.Refusal.the-variants.{NoRoom}
 use Rattle.protobuf.specs.Read.{Read, taken, refused, andThen}
 use Rattle.numbers.specs.Choose.{choose}
 use Rattle.protobuf.specs.Tag.{Tag, wireType, TagAt, done, tagged, untagged, tagAt}
-use Rattle.protobuf.specs.Payload.{Payload, counted, lengthDelimited, valueBy, groupBy, payload}
+use Rattle.message.specs.Payload.{Payload, counted, lengthDelimited, valueBy, groupBy, payload}
 use Rattle.protobuf.specs.Stream.{end, more, Item, last, item, follow, unrolled}
-use Rattle.protobuf.specs.Message.{Field, MessageEnd, complete, Message, message, messageFrom, withPayload, withTag, fieldAt}
+use Rattle.message.specs.Message.{Field, MessageEnd, complete, Message, message, messageFrom, withPayload, withTag, fieldAt}
 use Rattle.numbers.proofs.laws.Choose.{choose-elim}
 use Rattle.protobuf.proofs.laws.Read.{Reach, to, nowhere, reached}
 use Rattle.protobuf.proofs.laws.Varint.{varint-reach}
 use Rattle.protobuf.proofs.laws.Tag.{tag-reach, tagged-tag}
-use Rattle.protobuf.proofs.laws.Message.{fields-forward}
+use Rattle.message.proofs.laws.Message.{fields-forward}
 use Rattle.fields.specs.declared.part.Part.{Part}
 use Rattle.fields.specs.Part.{partBy, noPart}
 use Rattle.fields.specs.Parts.{partsOf}

@@ -10,7 +10,7 @@ use lib.Dec.{leb}
 use borrow.Author.Tests.{le-leb, lt-leb, leb-true, eqb-false}
 use Rattle.protobuf.specs.declared.refusal.Refusal.{Refusal}
 use Rattle.protobuf.specs.declared.refusal.Refusal.the-variants.{BlockTooLong, NoRoom, Outside}
-use Rattle.protobuf.specs.Message.{message}
+use Rattle.message.specs.Message.{message}
 use Rattle.numbers.specs.Little.{written}
 use Rattle.numbers.proofs.laws.Little.{written-length, written-before, written-twice}
 use Rattle.numbers.proofs.laws.Choose.{drop-take}

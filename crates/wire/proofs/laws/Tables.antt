@@ -11,7 +11,7 @@ use lib.Seq.{drop-drop, take-all}
 use Rattle.numbers.specs.Choose.{choose}
 use Rattle.numbers.specs.Little.{bytes, written, writtenAt}
 use Rattle.protobuf.specs.Stream.{end, more}
-use Rattle.protobuf.specs.Message.{Message}
+use Rattle.message.specs.Message.{Message}
 use Rattle.numbers.proofs.laws.Little.{bytes-length, bytes-mod, writes-inside, writes-length, written-twice}
 use Rattle.fields.specs.Part.{partBy}
 use Rattle.fields.specs.Parts.{isPart, partsOf}

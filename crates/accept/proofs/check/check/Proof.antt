@@ -2,7 +2,7 @@
 use borrow.Author.Needs.{needs}
 use mathlib.Core.Path.{sym, _∙_}
 use Rattle.protobuf.proofs.laws.Read.{says}
-use Rattle.accept.specs.Accept.{checkOf}
+use Rattle.passes.specs.Checked.{checkOf}
 use Rattle.accept.proofs.laws.Accept.{checked-outside, ranges-refused, ranges-passed, both-clauses}
 use Rattle.accept.proofs.check.check.Statement.{statement}
 use Rattle.accept.proofs.check.check.Tie as tie

@@ -5,7 +5,8 @@ use Prim.Native.Nat.{_-_}
 use native.Mathlib.Omega.{arith}
 use Rattle.protobuf.proofs.laws.Read.{says}
 use Rattle.block.specs.Check.{checkGroup}
-use Rattle.accept.specs.Accept.{checkOf, insideOf, groupAtPart}
+use Rattle.passes.specs.Checked.{checkOf}
+use Rattle.accept.specs.Accept.{insideOf, groupAtPart}
 use Rattle.accept.proofs.laws.Accept.{Entries, entries-begin, entries-end, entries-refused, entries-on, range-found, range-bytes, range-not-refused}
 use Rattle.accept.proofs.check.check_groups.Statement.{statement}
 use Rattle.accept.proofs.check.check_groups.Tie as tie

@@ -5,8 +5,9 @@ use Prim.Native.Nat.{_-_}
 use native.Mathlib.Omega.{arith}
 use lib.ListN.{length}
 use Rattle.protobuf.proofs.laws.Read.{says}
-use Rattle.protobuf.specs.Answers.{fieldOf}
-use Rattle.accept.specs.Accept.{checkOf, elementOf}
+use Rattle.message.specs.Answers.{fieldOf}
+use Rattle.passes.specs.Checked.{checkOf}
+use Rattle.accept.specs.Accept.{elementOf}
 use Rattle.accept.proofs.laws.Group.{Passing, passing-begins, passing-ends, passing-other, passing-refused, passing-on, passing-within, passing-falls}
 use Rattle.accept.proofs.group_check.check_elements.Statement.{statement}
 use Rattle.accept.proofs.group_check.check_elements.Tie as tie

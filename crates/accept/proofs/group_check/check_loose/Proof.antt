@@ -2,7 +2,7 @@
 use borrow.Author.Needs.{needs}
 use mathlib.Core.Path.{sym, _∙_}
 use Rattle.protobuf.proofs.laws.Read.{says}
-use Rattle.accept.specs.Accept.{checkOf}
+use Rattle.passes.specs.Checked.{checkOf}
 use Rattle.block.proofs.laws.Onward.{on-refused, on-kept}
 use Rattle.accept.proofs.group_check.check_loose.Statement.{statement}
 use Rattle.accept.proofs.group_check.check_loose.Tie as tie

@@ -3,7 +3,7 @@ use borrow.Author.Needs.{needs}
 use Prim.Native.Nat.{_-_}
 use lib.ListN.{length}
 use mathlib.Core.Path.{sym}
-use Rattle.protobuf.specs.Answers.{fieldOf}
+use Rattle.message.specs.Answers.{fieldOf}
 use Rattle.protobuf.proofs.laws.Read.{says}
 use Rattle.groups.specs.Group.{foundDense}
 use Rattle.groups.proofs.laws.Group.{Passing, pass-begins, pass-complete, pass-cut, pass-spoilt, pass-refused, pass-kept}

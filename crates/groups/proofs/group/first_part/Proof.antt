@@ -3,7 +3,7 @@ use borrow.Author.Needs.{needs}
 use Prim.Native.Nat.{_-_}
 use lib.ListN.{length}
 use mathlib.Core.Path.{sym, _∙_}
-use Rattle.protobuf.specs.Answers.{fieldOf}
+use Rattle.message.specs.Answers.{fieldOf}
 use Rattle.protobuf.proofs.laws.Read.{says}
 use Rattle.groups.proofs.laws.Group.{Seeking, seek-begins, seek-ends, seek-finds, seek-further}
 use Rattle.fields.proofs.laws.Parts.{left-falls, no-field}

@@ -2,7 +2,7 @@
 use borrow.Author.Needs.{needs}
 use mathlib.Core.Path.{sym, ap, _∙_}
 use Rattle.protobuf.proofs.laws.Read.{says}
-use Rattle.accept.specs.Accept.{checkOf}
+use Rattle.passes.specs.Checked.{checkOf}
 use Rattle.answers.specs.Codes.{codeOf}
 use Rattle.answers.specs.Record.{recordOf}
 use Rattle.nuorpyts.proofs.laws.Check.{check-no-record, check-with-record}

@@ -4,9 +4,9 @@ use Prim.Native.Nat.{_-_}
 use native.Mathlib.Omega.{arith}
 use lib.ListN.{length}
 use mathlib.Core.Path.{ap}
-use Rattle.protobuf.specs.Answers.{fieldOf}
+use Rattle.message.specs.Answers.{fieldOf}
 use Rattle.protobuf.proofs.laws.Read.{says}
-use Rattle.protobuf.proofs.laws.Message.{field-within}
+use Rattle.message.proofs.laws.Message.{field-within}
 use Rattle.views.specs.Slots.{schemaOf}
 use Rattle.fields.specs.Slot.{putOf}
 use Rattle.views.proofs.laws.Slots.{Filling, begins, completed, cut-off, spoilt-off, not-stored, stored, in-room}

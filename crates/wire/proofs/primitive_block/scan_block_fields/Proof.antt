@@ -5,7 +5,7 @@ use Prim.Native.Nat.{_-_, _≤_}
 use native.Mathlib.Omega.{arith}
 use lib.ListN.{length}
 use mathlib.Core.Path.{refl, sym, ap}
-use Rattle.protobuf.specs.Answers.{fieldOf}
+use Rattle.message.specs.Answers.{fieldOf}
 use Rattle.protobuf.proofs.laws.Read.{says}
 use Rattle.fields.specs.Schema.{primitiveBlock}
 use Rattle.wire.specs.Block.{blockFields, keptBlock, groupsOf}

@@ -1,7 +1,7 @@
 -- `write_entries` writes the entries of `entries` one behind the other; the message that it reads stands before them and stays as it was.
 use native.Mathlib.Omega.{arith}
 use lib.ListN.{length, length-take, length-drop}
-use Rattle.protobuf.specs.Answers.{fieldOf}
+use Rattle.message.specs.Answers.{fieldOf}
 use Rattle.protobuf.proofs.laws.Read.{says}
 use Rattle.wire.proofs.laws.Filling.{Filling, fill-begins, fill-ends, fill-length, fill-further, fill-within, fill-skips, fill-room, fill-writes}
 use Prim.Native.Nat.{_+_, _-_, _≤_}

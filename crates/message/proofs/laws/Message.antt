@@ -1,0 +1,99 @@
+-- The laws of a message that views use: the fields from p are the field at p and the fields from the next place; a next place is behind
+-- its field's and within the bytes; a part lies within its message.
+use Prim.Native.Nat.{ℕ, suc, _+_, _*_, _≤_, _<_}
+use mathlib.Core.Path.{_≡_, refl, sym, ap, _∙_, subst}
+use mathlib.Core.List.{List}
+use native.Mathlib.Omega.{arith}
+use lib.ListN.{length}
+use Rattle.protobuf.specs.declared.refusal.Refusal.{Refusal}
+use Rattle.protobuf.specs.Read.{Read, taken, refused}
+use Rattle.protobuf.specs.Tag.{Tag, tagBy, split, TagAt, done, tagged, untagged, tagAt}
+use Rattle.message.specs.Payload.{Payload, payload}
+use Rattle.protobuf.specs.Stream.{Item, last, item, follow}
+use Rattle.message.specs.Message.{Field, MessageEnd, complete, cut, spoilt, withPayload, withTag, fieldAt, messageFrom}
+use Rattle.protobuf.proofs.laws.Read.{reached}
+use Rattle.protobuf.proofs.laws.Tag.{tag-reach, tagged-tag, small-parts, split-joined}
+use Rattle.message.proofs.laws.Group.{payload-reach}
+use Rattle.message.proofs.laws.Within.{part-within}
+use Rattle.protobuf.proofs.laws.Stream.{Forward, unroll, Every, every}
+
+-- ---- one field
+
+module _ (s : List ℕ) (p : ℕ) where
+  pub complete-at : tagAt s p ≡ done → fieldAt s p ≡ last complete
+  unfolding fieldAt
+  complete-at e = ap (withTag s) e
+
+  pub cut-at : {n : Refusal} → tagAt s p ≡ untagged n → fieldAt s p ≡ last (cut n)
+  unfolding fieldAt
+  cut-at e = ap (withTag s) e
+
+  pub spoilt-at : {t : Tag} {q : ℕ} {n : Refusal} → tagAt s p ≡ tagged t q → payload s t q ≡ refused n → fieldAt s p ≡ last (spoilt t n)
+  unfolding fieldAt
+  spoilt-at {t} e g = ap (withTag s) e ∙ ap (withPayload t) g
+
+  pub field-at : {t : Tag} {q r : ℕ} {v : Payload} → tagAt s p ≡ tagged t q → payload s t q ≡ taken v r → fieldAt s p ≡ item (record { tag = t; payload = v }) r
+  unfolding fieldAt
+  field-at {t} e g = ap (withTag s) e ∙ ap (withPayload t) g
+
+  -- the same by the tag's value, put together from its parts
+  module _ {f w q : ℕ} (e : tagAt s p ≡ tagged (tagBy f w) q) where
+    joined : tagBy f w ≡ split (f * 8 + w)
+    joined = sym (split-joined f w (small-parts s p (tagged-tag s p e .1) .1))
+
+    pub spoilt-by : {n : Refusal} → payload s (tagBy f w) q ≡ refused n → fieldAt s p ≡ last (spoilt (split (f * 8 + w)) n)
+    spoilt-by {n} g = spoilt-at e g ∙ ap (λ (t : Tag). last (spoilt t n)) joined
+
+    pub field-by : {r : ℕ} {v : Payload} → payload s (tagBy f w) q ≡ taken v r → fieldAt s p ≡ item (record { tag = split (f * 8 + w); payload = v }) r
+    field-by {r} {v} g = field-at e g ∙ ap (λ (t : Tag). item (record { tag = t; payload = v }) r) joined
+
+-- ---- the next place
+
+module _ (s : List ℕ) where
+  place : Item Field MessageEnd → ℕ
+  place (last e) = 0
+  place (item f q) = q
+
+  read-payload : (t : Tag) (r : Read Payload) {f : Field} {q : ℕ} → withPayload t r ≡ item f q → (v : Payload) × (r ≡ taken v q)
+  unfolding place
+  read-payload t (taken v r) e = (v, ap (λ (n : ℕ). taken v n) (ap place e))
+  read-payload t (refused n) e = absurd (let z : _≡_ {A = ℕ} 0 1 = cc in omega arith)
+
+  forward : (p : ℕ) (a : TagAt) {f : Field} {q : ℕ} → tagAt s p ≡ a → withTag s a ≡ item f q → (p < q) × (q ≤ length s)
+  forward p done e g = absurd (let z : _≡_ {A = ℕ} 0 1 = cc in omega arith)
+  forward p (untagged n) e g = absurd (let z : _≡_ {A = ℕ} 0 1 = cc in omega arith)
+  forward p (tagged t r) e g =
+      omega (arith, reached (tag-reach s p) (tagged-tag s p e .1), reached (payload-reach s t r) (read-payload t (payload s t r) g .1))
+
+  pub fields-forward : Forward (fieldAt s) (length s)
+  unfolding fieldAt
+  fields-forward = record { moves = λ p q f e. forward p (tagAt s p) refl e }
+
+  pub message-from : (p : ℕ) → messageFrom s p ≡ follow (fieldAt s p) (messageFrom s)
+  unfolding messageFrom
+  message-from p = unroll fields-forward complete p
+
+  -- ---- a part lies within its message
+
+  fieldOr : Field → Item Field MessageEnd → Field
+  fieldOr other (last e) = other
+  fieldOr other (item f q) = f
+
+  payload-within : (t : Tag) (q : ℕ) (r : Read Payload) {f : Field} {k : ℕ} → payload s t q ≡ r → withPayload t r ≡ item f k → f .payload .start + f .payload .len ≤ length s
+  unfolding fieldOr
+  payload-within t q (taken v k) {f} e g =
+      subst (λ (x : Field). x .payload .start + x .payload .len ≤ length s) (ap (fieldOr f) g) (part-within s t q e)
+  payload-within t q (refused n) e g = absurd (let z : _≡_ {A = ℕ} 0 1 = cc in omega arith)
+
+  tag-within : (a : TagAt) {f : Field} {k : ℕ} → withTag s a ≡ item f k → f .payload .start + f .payload .len ≤ length s
+  tag-within done g = absurd (let z : _≡_ {A = ℕ} 0 1 = cc in omega arith)
+  tag-within (untagged n) g = absurd (let z : _≡_ {A = ℕ} 0 1 = cc in omega arith)
+  tag-within (tagged t q) g = payload-within t q (payload s t q) refl g
+
+  pub field-within : (p : ℕ) (f : Field) (q : ℕ) → fieldAt s p ≡ item f q → f .payload .start + f .payload .len ≤ length s
+  unfolding fieldAt
+  field-within p f q e = tag-within (tagAt s p) e
+
+  pub all-within : (p : ℕ) → Every (λ (f : Field). f .payload .start + f .payload .len ≤ length s) (messageFrom s p)
+  unfolding messageFrom
+  all-within p = every _ (fieldAt s) complete field-within (suc (length s)) p
