@@ -2,6 +2,8 @@
 ghost use mathlib.Core.Path.{_≡_};
 ghost use Rattle.numbers.specs.Signed.{twos};
 ghost use Rattle.block.specs.Infos.{visibleInfo, userInfo, nextInfo};
+ghost use mathlib.Core.Bool.{true};
+ghost use Rattle.columns.specs.Inside.{infosInside, infoInside};
 ghost use Rattle.columns.specs.Zip.{infosAhead, infoSaid};
 use crate::sums::Sum32;
 use crate::sums::Sum64;
@@ -38,7 +40,8 @@ pub enum InfoStep {
 
 // visible, where all else of a node is read, `version` as it is stored: true where its column has ended.
 fn next_visible(s: &[u8], version: u64, columns: InfoColumns) -> InfoStep
-    ensures { λ r. ⌜ infoSaid (now (s .entry)) r ≡ visibleInfo (twos 32 version) (columns .timestamp .sum) (columns .changeset .sum) (columns .uid .sum) (columns .user .sum) (infosAhead (now (s .entry)) columns) ⌝ }
+    ensures says { λ r. ⌜ infoSaid (now (s .entry)) r ≡ visibleInfo (twos 32 version) (columns .timestamp .sum) (columns .changeset .sum) (columns .uid .sum) (columns .user .sum) (infosAhead (now (s .entry)) columns) ⌝ }
+    ensures inside { λ r. ⌜ (infosInside (now (s .entry)) columns ≡ true → infoInside (now (s .entry)) r ≡ true) ⌝ }
 {
     let mut read = columns;
     let visibles = columns.visible;
@@ -63,7 +66,8 @@ fn next_visible(s: &[u8], version: u64, columns: InfoColumns) -> InfoStep
 
 // uid, user_sid and visible, where version, timestamp and changeset are read.
 fn next_user(s: &[u8], version: u64, columns: InfoColumns) -> InfoStep
-    ensures { λ r. ⌜ infoSaid (now (s .entry)) r ≡ userInfo (twos 32 version) (columns .timestamp .sum) (columns .changeset .sum) (infosAhead (now (s .entry)) columns) ⌝ }
+    ensures says { λ r. ⌜ infoSaid (now (s .entry)) r ≡ userInfo (twos 32 version) (columns .timestamp .sum) (columns .changeset .sum) (infosAhead (now (s .entry)) columns) ⌝ }
+    ensures inside { λ r. ⌜ (infosInside (now (s .entry)) columns ≡ true → infoInside (now (s .entry)) r ≡ true) ⌝ }
 {
     let mut read = columns;
     let uids = columns.uid;
@@ -93,7 +97,8 @@ fn next_user(s: &[u8], version: u64, columns: InfoColumns) -> InfoStep
 
 // The info of the next node. Each column is read only while those before it had a value.
 pub fn next_info(s: &[u8], columns: InfoColumns) -> InfoStep
-    ensures { λ r. ⌜ infoSaid (now (s .entry)) r ≡ nextInfo (infosAhead (now (s .entry)) columns) ⌝ }
+    ensures says { λ r. ⌜ infoSaid (now (s .entry)) r ≡ nextInfo (infosAhead (now (s .entry)) columns) ⌝ }
+    ensures inside { λ r. ⌜ (infosInside (now (s .entry)) columns ≡ true → infoInside (now (s .entry)) r ≡ true) ⌝ }
 {
     let mut read = columns;
     let versions = columns.version;

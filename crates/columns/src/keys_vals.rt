@@ -3,6 +3,8 @@ ghost use mathlib.Core.Path.{_≡_};
 ghost use Rattle.fields.specs.Outcome.{each};
 ghost use Rattle.block.specs.Tags.{restOf, takePairs};
 ghost use Rattle.columns.specs.InStep.{ahead};
+ghost use mathlib.Core.Bool.{true};
+ghost use Rattle.columns.specs.Inside.{columnInside, tagInside, behindInside};
 ghost use Rattle.columns.specs.KeysVals.{valueOf, nextTag, tagSaid, behindOf};
 use protobuf::column::Column;
 use protobuf::column::Step;
@@ -24,7 +26,8 @@ pub enum Behind {
 
 // The value of a key: 2 where the column has ended.
 fn dense_value(s: &[u8], key: u64, column: Column) -> DenseTag
-    ensures { λ r. ⌜ tagSaid (now (s .entry)) r ≡ valueOf key (ahead (now (s .entry)) column) ⌝ }
+    ensures says { λ r. ⌜ tagSaid (now (s .entry)) r ≡ valueOf key (ahead (now (s .entry)) column) ⌝ }
+    ensures inside { λ r. ⌜ tagInside (now (s .entry)) r ≡ true ⌝ }
 {
     let r = next_value(s, column);
     match r {
@@ -36,7 +39,8 @@ fn dense_value(s: &[u8], key: u64, column: Column) -> DenseTag
 
 // The next pair of a node whose pairs the column begins with.
 pub fn next_dense_tag(s: &[u8], column: Column) -> DenseTag
-    ensures { λ r. ⌜ tagSaid (now (s .entry)) r ≡ nextTag (ahead (now (s .entry)) column) ⌝ }
+    ensures says { λ r. ⌜ tagSaid (now (s .entry)) r ≡ nextTag (ahead (now (s .entry)) column) ⌝ }
+    ensures inside { λ r. ⌜ (columnInside (now (s .entry)) column ≡ true → tagInside (now (s .entry)) r ≡ true) ⌝ }
 {
     let r = next_value(s, column);
     match r {
@@ -54,7 +58,8 @@ pub fn next_dense_tag(s: &[u8], column: Column) -> DenseTag
 
 // Past one node's pairs.
 pub fn pass_pairs(s: &[u8], column: Column) -> Behind
-    ensures { λ r. ⌜ behindOf (now (s .entry)) r ≡ each restOf (takePairs (ahead (now (s .entry)) column)) ⌝ }
+    ensures says { λ r. ⌜ behindOf (now (s .entry)) r ≡ each restOf (takePairs (ahead (now (s .entry)) column)) ⌝ }
+    ensures inside { λ r. ⌜ (columnInside (now (s .entry)) column ≡ true → behindInside (now (s .entry)) r ≡ true) ⌝ }
 {
     let mut at = column;
     loop {

@@ -2,6 +2,8 @@
 ghost use mathlib.Core.Path.{_≡_};
 ghost use lib.IntN.{pos};
 ghost use Rattle.columns.specs.InStep.{startOf};
+ghost use mathlib.Core.Bool.{true};
+ghost use Rattle.columns.specs.Inside.{columnInside};
 ghost use Rattle.columns.specs.Zip.{sum64Ahead, sum64Said, sum32Ahead, sum32Said};
 use crate::reader::next_in;
 use crate::reader::start_column;
@@ -57,7 +59,8 @@ pub fn start_sum32(part: Part) -> Sum32
 
 // The next sum, wrapping at 64 bits.
 pub fn next_sum64(s: &[u8], state: Sum64) -> Sum64Step
-    ensures { λ r. ⌜ sum64Said (now (s .entry)) r ≡ sum64Ahead (now (s .entry)) state ⌝ }
+    ensures says { λ r. ⌜ sum64Said (now (s .entry)) r ≡ sum64Ahead (now (s .entry)) state ⌝ }
+    ensures inside { λ r. ⌜ columnInside (now (s .entry)) (r .next .column) ≡ true ⌝ }
 {
     let column = state.column;
     let before = state.sum;
@@ -75,7 +78,8 @@ pub fn next_sum64(s: &[u8], state: Sum64) -> Sum64Step
 
 // The next sum, wrapping at 32 bits.
 pub fn next_sum32(s: &[u8], state: Sum32) -> Sum32Step
-    ensures { λ r. ⌜ sum32Said (now (s .entry)) r ≡ sum32Ahead (now (s .entry)) state ⌝ }
+    ensures says { λ r. ⌜ sum32Said (now (s .entry)) r ≡ sum32Ahead (now (s .entry)) state ⌝ }
+    ensures inside { λ r. ⌜ columnInside (now (s .entry)) (r .next .column) ≡ true ⌝ }
 {
     let column = state.column;
     let before = state.sum;

@@ -1,6 +1,8 @@
 // Several columns of a message in step: a value of each at a time. All of them are read before their end, or 12, is told. Where no value is
 // told, what stands beside is of no use.
 ghost use mathlib.Core.Path.{_≡_};
+ghost use mathlib.Core.Bool.{true};
+ghost use Rattle.columns.specs.Inside.{tagsInside, membersInside, rowsInside};
 ghost use Rattle.columns.specs.Zip.{tagsAhead, tagsSaid, membersAhead, membersSaid, rowsAhead, rowsSaid};
 use crate::reader::next_in;
 use crate::sums::Sum64;
@@ -53,7 +55,8 @@ pub struct RowStep {
 
 // The next pair of a key and a value, each by its lowest 32 bits: 12 where only one of them is there.
 pub fn next_tag(s: &[u8], columns: TagColumns) -> TagStep
-    ensures { λ r. ⌜ tagsSaid (now (s .entry)) r ≡ tagsAhead (now (s .entry)) columns ⌝ }
+    ensures says { λ r. ⌜ tagsSaid (now (s .entry)) r ≡ tagsAhead (now (s .entry)) columns ⌝ }
+    ensures inside { λ r. ⌜ tagsInside (now (s .entry)) (r .next) ≡ true ⌝ }
 {
     let keys = columns.keys;
     let vals = columns.vals;
@@ -73,7 +76,8 @@ pub fn next_tag(s: &[u8], columns: TagColumns) -> TagStep
 
 // The next role, memid and type of a member: 12 where only some of them are there.
 pub fn next_member(s: &[u8], columns: MemberColumns) -> MemberStep
-    ensures { λ r. ⌜ membersSaid (now (s .entry)) r ≡ membersAhead (now (s .entry)) columns ⌝ }
+    ensures says { λ r. ⌜ membersSaid (now (s .entry)) r ≡ membersAhead (now (s .entry)) columns ⌝ }
+    ensures inside { λ r. ⌜ membersInside (now (s .entry)) (r .next) ≡ true ⌝ }
 {
     let roles = columns.roles;
     let memids = columns.memids;
@@ -101,7 +105,8 @@ pub fn next_member(s: &[u8], columns: MemberColumns) -> MemberStep
 
 // The next id, lat and lon of a dense node: 12 where only some of them are there.
 pub fn next_row(s: &[u8], columns: RowColumns) -> RowStep
-    ensures { λ r. ⌜ rowsSaid (now (s .entry)) r ≡ rowsAhead (now (s .entry)) columns ⌝ }
+    ensures says { λ r. ⌜ rowsSaid (now (s .entry)) r ≡ rowsAhead (now (s .entry)) columns ⌝ }
+    ensures inside { λ r. ⌜ rowsInside (now (s .entry)) (r .next) ≡ true ⌝ }
 {
     let ids = columns.ids;
     let lats = columns.lats;

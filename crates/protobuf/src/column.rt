@@ -1,6 +1,9 @@
 // Columns: varints one after the other, read one at a time. What a column's type makes of each value is in `signed`.
 ghost use mathlib.Core.Path.{_≡_};
-ghost use Rattle.protobuf.specs.Column.{stepAt};
+ghost use Prim.Native.Nat.{_≤_};
+ghost use lib.ListN.{length, take};
+ghost use Rattle.protobuf.specs.Varint.{varint};
+ghost use Rattle.protobuf.specs.Column.{orCut, stepAt};
 ghost use Rattle.protobuf.specs.Answers.{stepBy, over};
 use crate::refusal::Refusal;
 use crate::varint::Varint;
@@ -29,6 +32,21 @@ fn refused(refusal: Refusal) -> Step
     }
 }
 
+// The value of a column that ends at `end`, by its varint, which may not pass that end.
+fn long_value(s: &[u8], at: usize, end: usize) -> Step
+    requires { ⌜ end ≤ length (now s) ⌝ }
+    ensures { λ r. ⌜ r ≡ stepBy end (orCut (varint (take end (now (s .entry))) at)) ⌝ }
+{
+    let r = read_varint(&s[..end], at);
+    let Varint::Value { value, next } = r else {
+        return refused(refusal_of(r));
+    };
+    Step::Value {
+        value,
+        next: Column { at: next, end },
+    }
+}
+
 // The next value of a column: 14 unless the state is inside the bytes (at ≤ end ≤ length), then 2 and 3 of the varint, which may not pass
 // the column's end.
 pub fn next_value(s: &[u8], column: Column) -> Step
@@ -45,7 +63,7 @@ pub fn next_value(s: &[u8], column: Column) -> Step
     if at == end {
         return Step::Ended;
     }
-    // Most values of a map's columns have one byte, and a call costs more than reading it.
+    // Most values of a map's columns have one byte or two, and a call costs more than reading them.
     let byte = s[at];
     if byte < 128 {
         return Step::Value {
@@ -53,12 +71,15 @@ pub fn next_value(s: &[u8], column: Column) -> Step
             next: Column { at: at + 1, end },
         };
     }
-    let r = read_varint(&s[..end], at);
-    let Varint::Value { value, next } = r else {
-        return refused(refusal_of(r));
-    };
-    Step::Value {
-        value,
-        next: Column { at: next, end },
+    if end - at < 2 {
+        return long_value(s, at, end);
     }
+    let second = s[at + 1];
+    if second < 128 {
+        return Step::Value {
+            value: (byte % 128) as u64 + 128 * (second as u64),
+            next: Column { at: at + 2, end },
+        };
+    }
+    long_value(s, at, end)
 }

@@ -1,6 +1,6 @@
 -- The laws of a column that readers use: the values from p are the value at p and the values from the next place; what one step of a
 -- reader finds.
-use Prim.Native.Nat.{ℕ, _+_, _≤_, _<_}
+use Prim.Native.Nat.{ℕ, _+_, _*_, _%_, _≤_, _<_}
 use mathlib.Core.Path.{_≡_, refl, sym, ap, _∙_}
 use mathlib.Core.List.{List}
 use mathlib.Core.Bool.{Bool, true, false}
@@ -16,7 +16,7 @@ use Rattle.protobuf.specs.Varint.{varint}
 use Rattle.protobuf.specs.Stream.{last, item, follow}
 use Rattle.protobuf.specs.Column.{ended, cut, orCut, valueAt, columnFrom, stepAt}
 use Rattle.protobuf.proofs.laws.Read.{reached}
-use Rattle.protobuf.proofs.laws.Varint.{one-byte, varint-reach}
+use Rattle.protobuf.proofs.laws.Varint.{one-byte, two-bytes, varint-reach}
 use Rattle.protobuf.proofs.laws.Stream.{Forward, unroll}
 
 -- ---- the value at a place
@@ -58,6 +58,13 @@ module _ (s : List ℕ) (p e : ℕ) where
         let same : getD (take e s) p 0 ≡ getD s p 0 = getD-take e s p 0 before in
         let inside : p < length (take e s) = omega (arith, length-take-le e s k) in
         step-by ne (one-byte (take e s) p inside (omega (arith, same))) ∙ ap (λ (v : ℕ). item v (p + 1)) same
+
+    pub step-two : p + 1 < e → 128 ≤ getD s p 0 → getD s (p + 1) 0 < 128 → stepAt s p e ≡ item (getD s p 0 % 128 + 128 * getD s (p + 1) 0) (p + 2)
+    step-two before a b =
+        let first : getD (take e s) p 0 ≡ getD s p 0 = getD-take e s p 0 (omega arith) in
+        let second : getD (take e s) (p + 1) 0 ≡ getD s (p + 1) 0 = getD-take e s (p + 1) 0 before in
+        step-by (λ eq. omega arith) (two-bytes (take e s) p (omega (arith, length-take-le e s k)) (omega (arith, first)) (omega (arith, second)))
+        ∙ λ i. item (first i % 128 + 128 * second i) (p + 2)
 
 -- ---- the stream
 

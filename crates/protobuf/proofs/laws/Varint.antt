@@ -114,6 +114,16 @@ one-byte s p h b =
     simp (le-leb p (length s) (omega arith))
     (goes-on _ (digits-last 9 s p h b) ∙ ap (λ (v : ℕ). taken v (p + 1)) (mod-eq-of-lt (omega arith)))
 
+-- a byte with it and one without are a varint too
+pub two-bytes : (s : List ℕ) (p : ℕ) → p + 1 < length s → 128 ≤ getD s p 0 → getD s (p + 1) 0 < 128 → varint s p ≡ taken (getD s p 0 % 128 + 128 * getD s (p + 1) 0) (p + 2)
+unfolding varint
+two-bytes s p h a b =
+    let low : getD s p 0 % 128 < 128 = mod-lt (getD s p 0) (lit< tt) in
+    let next : p + 1 + 1 ≡ p + 2 = omega arith in
+    let small : (getD s p 0 % 128 + 128 * getD s (p + 1) 0) % 2 ^ 64 ≡ getD s p 0 % 128 + 128 * getD s (p + 1) 0 = mod-eq-of-lt (omega arith) in
+    simp (le-leb p (length s) (omega arith))
+    (goes-on _ (digits-more 9 s p (omega arith) a ∙ goes-on _ (digits-last 8 s (p + 1) h b)) ∙ λ i. taken (small i) (next i))
+
 pub digits-reach : (n : ℕ) (s : List ℕ) (p : ℕ) → Reach s (suc p) (digits n s p)
 unfolding digits
 digits-reach zero s p = nowhere

@@ -24,12 +24,12 @@ loop-holds c = simp sub-zero
 returns : tie.Need-returns Inv-loop μ-loop
 returns c =
     let b = c .before .before .before in
-    sym (b .before .before .loop .inv ∙ node-refused _ _ _ (omega arith) (says (behindOf _) (b .pass-pairs .ensures) (c .before .r .given .1)))
+    sym (b .before .before .loop .inv ∙ node-refused _ _ _ (omega arith) (says (behindOf _) (b .pass-pairs .ensures .0) (c .before .r .given .1)))
 
 loop-again : tie.Need-loop-again Inv-loop μ-loop
 loop-again c =
     let b = c .before .before .before in
-    b .before .before .loop .inv ∙ node-passed _ _ _ (omega arith) (says (behindOf _) (b .pass-pairs .ensures) (c .before .r2 .given .1))
+    b .before .before .loop .inv ∙ node-passed _ _ _ (omega arith) (says (behindOf _) (b .pass-pairs .ensures .0) (c .before .r2 .given .1))
 
 returns-2 : tie.Need-returns-2 Inv-loop μ-loop
 returns-2 c = sym (c .before .loop .inv ∙ nodes-passed _ _ _ (omega arith))

@@ -1,11 +1,10 @@
--- `next_value` finds what `stepAt` says: the state's test, the end, a value of one byte, or the varint that may not pass the column's end.
+-- `next_value` finds what `stepAt` says: the state's test, the end, a value of one byte or of two, or the varint that may not pass the column's
+-- end.
 use borrow.Author.Needs.{needs}
-use lib.Seq.{length-take-le}
-use mathlib.Core.Path.{sym, ap, _∙_}
-use Rattle.protobuf.specs.Answers.{varintOf, stepBy}
-use Rattle.protobuf.proofs.laws.Read.{says}
-use Rattle.protobuf.proofs.laws.Varint.{refusal-read}
-use Rattle.protobuf.proofs.laws.Column.{step-past, step-outside, step-end, step-one, step-by}
+use mathlib.Core.Path.{refl, sym, ap, _∙_}
+use native.Mathlib.Omega.{arith}
+use Rattle.protobuf.specs.Answers.{stepBy}
+use Rattle.protobuf.proofs.laws.Column.{step-past, step-outside, step-end, step-one, step-two, step-by}
 use Rattle.protobuf.proofs.column.next_value.Statement.{statement}
 use Rattle.protobuf.proofs.column.next_value.Tie as tie
 
@@ -14,19 +13,21 @@ one-byte c =
     let t = c .before .before in
     sym (ap (stepBy _) (step-one _ _ _ (t .before .before .if1 .left) (t .before .if2 .left) (t .if3 .left) (c .if4 .taken)))
 
-varint-refused : tie.Need-returns-5
-varint-refused c =
-    let v = c .before .before .before .before in
-    let t = v .before .before .before .before in
-    let e = refusal-read (v .read-varint .ensures) (c .before .before .enum-told .given .1) (c .before .refusal-of .ensures) in
-    c .refused3 .ensures ∙ sym (ap (stepBy _) (step-by _ _ _ (t .before .before .if1 .left) (t .before .if2 .left) (t .if3 .left) e))
+last-byte : tie.Need-returns-5
+last-byte c =
+    let t = c .before .before .before .before in
+    c .long-value .ensures ∙ sym (ap (stepBy _) (step-by _ _ _ (t .before .before .if1 .left) (t .before .if2 .left) (t .if3 .left) refl))
 
-varint-taken : tie.Need-returns-6
-varint-taken c =
-    let v = c .before .before .before in
-    let t = v .before .before .before .before in
-    let e = says varintOf (v .read-varint .ensures) (c .before .r .given .1) in
-    sym (ap (stepBy _) (step-by _ _ _ (t .before .before .if1 .left) (t .before .if2 .left) (t .if3 .left) e))
+two-bytes : tie.Need-returns-6
+two-bytes c =
+    let f = c .before .before in
+    let t = f .before .before .before in
+    sym (ap (stepBy _) (step-two _ _ _ (t .before .before .if1 .left) (t .before .if2 .left) (omega (arith, f .if5 .left, t .before .before .if1 .left)) (f .before .if4 .left) (c .if6 .taken)))
+
+more-bytes : tie.Need-returns-7
+more-bytes c =
+    let t = c .before .before .before .before .before .before in
+    c .long-value2 .ensures ∙ sym (ap (stepBy _) (step-by _ _ _ (t .before .before .if1 .left) (t .before .if2 .left) (t .if3 .left) refl))
 
 pub next-value-spec : {M : Type 1} → statement M
 next-value-spec =
@@ -41,11 +42,15 @@ next-value-spec =
     (λ c. search needs)
     (λ c. search needs)
     one-byte
-    (λ c. sym (length-take-le _ _ (c .before .before .before .before .if2 .left)))
     (λ c κs. search needs)
+    last-byte
     (λ c. search needs)
     (λ c. search needs)
+    (λ c. search needs)
+    (λ c. search needs)
+    (λ c. search needs)
+    (λ c. search needs)
+    (λ c. search needs)
+    two-bytes
     (λ c κs. search needs)
-    (λ c κs. search needs)
-    varint-refused
-    varint-taken)
+    more-bytes)

@@ -1,0 +1,234 @@
+-- The laws of a walk's way into a group: its entry, its dense message, and their columns, which are inside the buffer because the parts that
+-- a view hands out are.
+use Prim.Native.Nat.{ℕ, suc, _+_, _-_, _*_, _^_, _≤_, _<_}
+use mathlib.Core.Path.{_≡_, refl, sym, ap, _∙_, subst}
+use mathlib.Core.List.{List}
+use mathlib.Core.Bool.{Bool, true, false}
+use native.Mathlib.Omega.{arith}
+use lib.Dec.{leb, ltb}
+use lib.ListN.{length, take, drop, length-drop}
+use lib.Seq.{length-take-le}
+use borrow.Author.Tests.{leb-true, le-leb, lt-ltb, ltb-true}
+use Rattle.protobuf.specs.declared.refusal.Refusal.{Refusal}
+use Rattle.protobuf.specs.declared.refusal.Refusal.the-variants.{Outside}
+use Rattle.numbers.specs.Choose.{choose}
+use Rattle.protobuf.specs.Stream.{end}
+use Rattle.protobuf.specs.Column.{ended, cut, Column}
+use Rattle.fields.specs.declared.part.Part.{Part}
+use Rattle.fields.specs.Outcome.{Outcome, kept, refused, each}
+use Rattle.fields.specs.Part.{moved, isInside}
+use Rattle.fields.specs.View.{Schema, Slots, view, viewIn}
+use Rattle.fields.specs.Schema.{denseNodes, denseInfo}
+use Rattle.fields.proofs.laws.Outcome.{each-kept, chosen}
+use Rattle.fields.proofs.laws.Within.{parts-hold}
+use Rattle.views.specs.declared.dense_nodes.WireDenseNodes.{WireDenseNodes}
+use Rattle.views.specs.declared.dense_info.WireDenseInfo.{WireDenseInfo}
+use Rattle.views.specs.DenseNodes.{denseNodesAt}
+use Rattle.views.specs.DenseInfo.{denseInfoAt}
+use Rattle.columns.specs.InStep.{startOf}
+use Rattle.columns.specs.Inside.{also, columnInside, infosInside}
+use Rattle.columns.specs.declared.info_rows.InfoColumns.{InfoColumns}
+use Rattle.columns.proofs.laws.Inside.{also-true}
+use Rattle.columns.proofs.laws.InStep.{start-absent, start-here}
+use Rattle.wire.specs.declared.record.WireBlock.{WireBlock}
+use Rattle.groups.specs.Group.{denseIn}
+use Rattle.lookup.specs.declared.by_number.GroupRange.{GroupRange}
+use Rattle.lookup.specs.declared.by_number.GroupRange.the-variants as range
+use Rattle.lookup.specs.Lookup.{entryAt, isRecordInside, groupAt}
+use Rattle.walk.specs.declared.state.GroupRangeAt.{GroupRangeAt}
+use Rattle.walk.specs.declared.state.DenseColumns.{DenseColumns}
+use Rattle.walk.specs.declared.state.DenseNodeIter.{DenseNodeIter}
+use Rattle.walk.specs.declared.state.Loose.the-variants as kind
+use Rattle.walk.specs.declared.state.BlockElementsIter.{BlockElementsIter}
+use Rattle.walk.specs.declared.state.BlockElementsIter.the-variants as walk
+use Rattle.walk.specs.declared.block_elements.ElementStep.the-variants as step
+use Rattle.walk.specs.declared.moves.Quiet.{Quiet}
+use Rattle.walk.specs.declared.moves.Quiet.the-variants as quiet
+use Rattle.walk.specs.State.{groupInside, denseInside}
+use Rattle.walk.specs.Walk.{Found, _then_, behind, messagesOf, fromNodes, fromDense, rowsStart, infosStart, enterDense, enterFound, enterRange, groupsFrom, groupsBehind}
+use Rattle.walk.specs.Said.{leftFrom, beforeKind, columnsInside, refusedBy, atDense, atInfos, Quietly}
+use Rattle.walk.proofs.laws.Tests.{both-hold}
+
+-- ---- columns at the start of a part
+
+module _ (s : List ℕ) (small : length s < 2 ^ 64) where
+  start-by : (p : Part) (b : Bool) → p .present ≡ b → p .start + p .len ≤ length s → columnInside s (startOf p) ≡ true
+  start-by p false gone h = ap (columnInside s) (start-absent p gone) ∙ also-true (le-leb 0 0 (omega arith)) (le-leb 0 (length s) (omega arith))
+  start-by p true here h =
+      ap (columnInside s) (start-here p here (omega arith))
+      ∙ also-true (le-leb (p .start) (p .start + p .len) (omega arith)) (le-leb (p .start + p .len) (length s) h)
+
+  start-inside : (p : Part) → p .start + p .len ≤ length s → columnInside s (startOf p) ≡ true
+  start-inside p h = start-by p (p .present) refl h
+
+  -- what a view of a part hands out
+  module _ {A : Type 0} (at : ℕ → Slots → A) (schema : Schema) (start len : ℕ) {v : A} (e : each (at start) (viewIn schema s start len) ≡ kept v) where
+    found : (slots : Slots) × (viewIn schema s start len ≡ kept slots) × (at start slots ≡ v)
+    found = each-kept (at start) (viewIn schema s start len) e
+
+    tested : (leb (start + len) (length s) ≡ true) × (view schema (take len (drop start s)) ≡ kept (found .0))
+    unfolding viewIn
+    tested = chosen (leb (start + len) (length s)) (view schema (take len (drop start s))) _ (found .1)
+
+    message-inside : start + len ≤ length s
+    message-inside = leb-true _ _ (tested .0)
+
+    own-length : length (take len (drop start s)) ≡ len
+    own-length = length-take-le len (drop start s) (simp length-drop (omega (arith, message-inside)))
+
+    column-started : (get : A → Part) (k : ℕ) → ((slots : Slots) → get (at start slots) ≡ moved start (slots k .part)) → columnInside s (startOf (get v)) ≡ true
+    column-started get k is =
+        start-inside (get v)
+        (subst (λ (p : Part). p .start + p .len ≤ length s) (sym (is (found .0)) ∙ ap get (found .2))
+        (parts-hold (λ (p : Part). moved start p .start + moved start p .len ≤ length s) schema (take len (drop start s)) (omega arith)
+        (λ from size h. omega (arith, h, own-length, message-inside)) (tested .1) k))
+
+  dense-started : (start len : ℕ) {v : WireDenseNodes} → each (denseNodesAt start) (viewIn denseNodes s start len) ≡ kept v → columnsInside s (record { rows = rowsStart v; keyvals = startOf (v .keyvals) }) ≡ true
+  dense-started start len e =
+      also-true
+      (also-true (column-started denseNodesAt denseNodes start len e (λ v. v .id) 1 (λ slots. refl))
+      (also-true (column-started denseNodesAt denseNodes start len e (λ v. v .lat) 8 (λ slots. refl))
+      (column-started denseNodesAt denseNodes start len e (λ v. v .lon) 9 (λ slots. refl))))
+      (column-started denseNodesAt denseNodes start len e (λ v. v .keyvals) 10 (λ slots. refl))
+
+  infos-started : (start len : ℕ) {v : WireDenseInfo} → each (denseInfoAt start) (viewIn denseInfo s start len) ≡ kept v → infosInside s (infosStart v) ≡ true
+  infos-started start len e =
+      also-true (column-started denseInfoAt denseInfo start len e (λ v. v .version) 1 (λ slots. refl))
+      (also-true (column-started denseInfoAt denseInfo start len e (λ v. v .timestamp) 2 (λ slots. refl))
+      (also-true (column-started denseInfoAt denseInfo start len e (λ v. v .changeset) 3 (λ slots. refl))
+      (also-true (column-started denseInfoAt denseInfo start len e (λ v. v .uid) 4 (λ slots. refl))
+      (also-true (column-started denseInfoAt denseInfo start len e (λ v. v .user) 5 (λ slots. refl))
+      (column-started denseInfoAt denseInfo start len e (λ v. v .visible) 6 (λ slots. refl))))))
+
+-- ---- moves
+
+-- what is read whole, and then a stream behind it
+module _ {A B : Type 0} {x : Outcome A} (f : A → Column B) (others : Column B) where
+  pub behind-refused : {n : Refusal} → x ≡ refused n → behind x f then others ≡ end (cut n)
+  unfolding _then_
+  behind-refused e = ap (λ (y : Outcome A). behind y f then others) e
+
+  pub behind-kept : {a : A} → x ≡ kept a → behind x f then others ≡ f a then others
+  behind-kept e = ap (λ (y : Outcome A). behind y f then others) e
+
+pub quiet-refused : {s : List ℕ} {r : WireBlock} {m : ℕ} {c : Column Found} {q : Quiet} (n : Refusal) → q ≡ refusedBy n → c ≡ end (cut n) → Quietly s r m c q
+quiet-refused {s} {r} {m} {c} n e g = subst (Quietly s r m c) (sym e) (record { says = sym g; on = refl; behind = refl })
+
+module _ (s : List ℕ) (r : WireBlock) (small : length s < 2 ^ 64) where
+  -- a group that is inside has groups left from it on
+  group-below : (of : GroupRangeAt) → groupInside s r of ≡ true → of .group < r .groups
+  group-below of h = ltb-true _ _ (both-hold (ltb (of .group) (r .groups)) _ h .0)
+
+  nodes-below : (nodes : DenseNodeIter) → denseInside s r nodes ≡ true → nodes .of .group < r .groups
+  nodes-below nodes h = group-below (nodes .of) (both-hold (groupInside s r (nodes .of)) _ h .0)
+
+  -- a state in the phase k of a group is nearer than the group's beginning
+  near : (group k : ℕ) → group < r .groups → 1 ≤ k → ltb (leftFrom r group - k) (leftFrom r group) ≡ true
+  near group k h g = lt-ltb (leftFrom r group - k) (leftFrom r group) (omega arith)
+
+  pub enters-infos : (nodes : DenseNodeIter) (info : Part) {v : WireDenseInfo} {infos : InfoColumns} → denseInside s r nodes ≡ true → infos ≡ infosStart v
+      → each (denseInfoAt (info .start)) (viewIn denseInfo s (info .start) (info .len)) ≡ kept v
+      → Quietly s r (leftFrom r (nodes .of .group)) (atInfos s r nodes info) (quiet.Moved (walk.FullDenseNodes (record { nodes = nodes; infos = infos })))
+  enters-infos nodes info {v} inside is e =
+      subst (λ (x : InfoColumns). Quietly s r (leftFrom r (nodes .of .group)) (atInfos s r nodes info) (quiet.Moved (walk.FullDenseNodes (record { nodes = nodes; infos = x })))) (sym is)
+      (record {
+        says = sym (behind-kept _ _ e);
+        on = also-true (also-true inside (infos-started s small (info .start) (info .len) e)) (near (nodes .of .group) 1 (nodes-below nodes inside) (omega arith));
+        behind = refl;
+      })
+
+  -- a dense message that is viewed
+  module _ (of : GroupRangeAt) (message : Part) {v : WireDenseNodes} {columns : DenseColumns} (inside : groupInside s r of ≡ true) (is : columns ≡ record { rows = rowsStart v; keyvals = startOf (v .keyvals) })
+      (e : each (denseNodesAt (message .start)) (viewIn denseNodes s (message .start) (message .len)) ≡ kept v) where
+    abbrev with : DenseColumns → DenseNodeIter
+    with c = record { of = of; message = message; columns = c }
+
+    pub nodes-inside : denseInside s r (with columns) ≡ true
+    nodes-inside =
+        also-true inside
+        (also-true (le-leb _ _ (message-inside s small denseNodesAt denseNodes (message .start) (message .len) e))
+        (ap (columnsInside s) is ∙ dense-started s small (message .start) (message .len) e))
+
+    module _ {full : Bool} where
+      pub enters-dense : full ≡ false → Quietly s r (leftFrom r (of .group)) (atDense full s r of message) (quiet.Dense (with columns))
+      enters-dense plain =
+          record {
+            says =
+                ap (λ (c : DenseColumns). fromDense s (with c) then groupsBehind false s r of) is
+                ∙ sym (behind-kept (enterDense false s of message) (groupsBehind false s r of) e)
+                ∙ ap (λ (b : Bool). atDense b s r of message) (sym plain);
+            on = also-true nodes-inside (le-leb (leftFrom r (of .group) - 1) (leftFrom r (of .group)) (omega arith));
+            behind = refl;
+          }
+
+      pub enters-full : {q : Quiet} → full ≡ true → Quietly s r (leftFrom r (of .group)) (atInfos s r (with columns) (v .info)) q → Quietly s r (leftFrom r (of .group)) (atDense full s r of message) q
+      enters-full {q} metadata h =
+          subst (λ (c : Column Found). Quietly s r (leftFrom r (of .group)) c q)
+          (ap (λ (c : DenseColumns). atInfos s r (with c) (v .info)) is
+          ∙ sym (behind-kept (enterDense true s of message) (groupsBehind true s r of) e)
+          ∙ ap (λ (b : Bool). atDense b s r of message) (sym metadata))
+          h
+
+-- ---- into a group
+
+module _ (s : List ℕ) (r : WireBlock) where
+  range-by : (a b : Bool) (x : Part) {p : Part} → isInside s x ≡ b → choose a (choose b (range.Range x) (range.Refused Outside)) (range.Refused Outside) ≡ range.Range p → isInside s p ≡ true
+  range-by true true x {p} g e = let same : x ≡ p = cc in subst (λ (y : Part). isInside s y ≡ true) same g
+  range-by true false x g e = absurd (let z : _≡_ {A = ℕ} 0 1 = cc in omega arith)
+  range-by false b x g e = absurd (let z : _≡_ {A = ℕ} 0 1 = cc in omega arith)
+
+  range-inside : (i : ℕ) {p : Part} → groupAt s r i ≡ range.Range p → isInside s p ≡ true
+  unfolding groupAt
+  range-inside i e = range-by (choose (isRecordInside s r) (ltb i (r .groups)) false) (isInside s (entryAt s (r .grouptable + 8 * i))) (entryAt s (r .grouptable + 8 * i)) refl e
+
+  module _ (full : Bool) (group : ℕ) where
+    abbrev from : Column Found
+    from = groupsFrom full s r (r .groups - group) group
+
+    abbrev rangeOf : Part → GroupRangeAt
+    rangeOf p = record { group = group; start = p .start; len = p .len }
+
+    none-left : r .groups ≤ group → from ≡ end ended
+    unfolding groupsFrom
+    none-left h = let none : r .groups - group ≡ 0 = omega arith in ap (λ (n : ℕ). groupsFrom full s r n group) none
+
+    pub quiet-ended : r .groups ≤ group → Quietly s r (leftFrom r group) from (quiet.Says (step.Ended walk.Ended))
+    quiet-ended h = record { says = sym (none-left h); on = refl; behind = refl }
+
+    module _ (below : group < r .groups) where
+      one-group : from ≡ enterRange full s group (groupAt s r group) then groupsFrom full s r (r .groups - suc group) (suc group)
+      unfolding groupsFrom
+      one-group = let one : r .groups - group ≡ suc (r .groups - suc group) = omega arith in ap (λ (n : ℕ). groupsFrom full s r n group) one
+
+      pub no-range : {n : Refusal} → groupAt s r group ≡ range.Refused n → from ≡ end (cut n)
+      unfolding _then_
+      no-range e = one-group ∙ ap (λ (x : GroupRange). enterRange full s group x then groupsFrom full s r (r .groups - suc group) (suc group)) e
+
+      module _ {p : Part} (e : groupAt s r group ≡ range.Range p) where
+        pub range-stands : groupInside s r (rangeOf p) ≡ true
+        range-stands = also-true (lt-ltb _ _ below) (range-inside group e)
+
+        in-range : from ≡ behind (each (moved (p .start)) (denseIn s (p .start) (p .len))) (enterFound full s (rangeOf p)) then groupsBehind full s r (rangeOf p)
+        in-range = one-group ∙ ap (λ (x : GroupRange). enterRange full s group x then groupsFrom full s r (r .groups - suc group) (suc group)) e
+
+        pub no-pass : {n : Refusal} → each (moved (p .start)) (denseIn s (p .start) (p .len)) ≡ refused n → from ≡ end (cut n)
+        no-pass g = in-range ∙ behind-refused (enterFound full s (rangeOf p)) (groupsBehind full s r (rangeOf p)) g
+
+        module _ {message : Part} (g : each (moved (p .start)) (denseIn s (p .start) (p .len)) ≡ kept message) where
+          passed : from ≡ enterFound full s (rangeOf p) message then groupsBehind full s r (rangeOf p)
+          passed = in-range ∙ behind-kept (enterFound full s (rangeOf p)) (groupsBehind full s r (rangeOf p)) g
+
+          by-presence : {b : Bool} → message .present ≡ b → from
+              ≡ choose b (behind (each (denseNodesAt (message .start)) (viewIn denseNodes s (message .start) (message .len))) (enterDense full s (rangeOf p) message)) (fromNodes s (messagesOf full (rangeOf p) kind.Nodes))
+              then groupsBehind full s r (rangeOf p)
+          by-presence h =
+              passed
+              ∙ ap (λ (b : Bool). choose b (behind (each (denseNodesAt (message .start)) (viewIn denseNodes s (message .start) (message .len))) (enterDense full s (rangeOf p) message)) (fromNodes s (messagesOf full (rangeOf p) kind.Nodes)) then groupsBehind full s r (rangeOf p)) h
+
+          pub with-dense : {q : Quiet} → message .present ≡ true → Quietly s r (leftFrom r group) (atDense full s r (rangeOf p) message) q → Quietly s r (leftFrom r group) from q
+          with-dense {q} h k = subst (λ (c : Column Found). Quietly s r (leftFrom r group) c q) (sym (by-presence h)) k
+
+          pub without-dense : {w : BlockElementsIter} → length s < 2 ^ 64 → message .present ≡ false → w ≡ beforeKind full (rangeOf p) kind.Nodes → Quietly s r (leftFrom r group) from (quiet.Moved w)
+          without-dense small h is =
+              subst (λ (x : BlockElementsIter). Quietly s r (leftFrom r group) from (quiet.Moved x)) (sym is)
+              (record { says = sym (by-presence h); on = also-true (also-true range-stands (le-leb 0 (p .len) (omega arith))) (near s r small group 2 below (omega arith)); behind = refl })

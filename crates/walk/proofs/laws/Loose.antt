@@ -1,0 +1,162 @@
+-- The laws of a group's messages that are walked one at a time: the first message of a field from a place on, and those behind its end, are
+-- all of them from that place on; what is viewed of it is the first that a walk has ahead.
+use Prim.Native.Nat.{ℕ, zero, suc, _+_, _-_, _^_, _≤_, _<_}
+use mathlib.Core.Path.{_≡_, refl, sym, ap, _∙_, subst}
+use mathlib.Core.List.{List, [], _∷_, _++_, map}
+use mathlib.Core.Bool.{Bool, true, false}
+use native.Mathlib.Omega.{arith}
+use lib.ListN.{length, take, drop, length-drop}
+use lib.Seq.{length-take-le}
+use borrow.Author.Tests.{le-leb}
+use Rattle.protobuf.specs.declared.refusal.Refusal.{Refusal}
+use Rattle.numbers.specs.Choose.{choose}
+use Rattle.numbers.proofs.laws.Choose.{choose-elim}
+use Rattle.protobuf.specs.Tag.{Tag, TagAt, done, tagged, untagged, tagAt}
+use Rattle.protobuf.specs.Read.{Read, taken, refused}
+use Rattle.message.specs.Payload.{Payload, payload}
+use Rattle.protobuf.specs.Stream.{end, more, Item, last, item, follow}
+use Rattle.protobuf.specs.Column.{ended, cut, Column}
+use Rattle.message.specs.Message as M
+use Rattle.message.specs.Message.{Field, MessageEnd, withPayload, withTag, fieldAt, messageFrom}
+use Rattle.message.proofs.laws.Message.{message-from, fields-forward}
+use Rattle.message.proofs.laws.Within.{part-ends}
+use Rattle.fields.specs.declared.part.Part.{Part}
+use Rattle.fields.specs.Outcome as outcome
+use Rattle.fields.specs.Outcome.{Outcome, kept, each}
+use Rattle.fields.specs.Part.{partBy, noPart, moved}
+use Rattle.fields.specs.Parts.{isPart, partsOf}
+use Rattle.groups.specs.declared.group.MessagePlace.{MessagePlace}
+use Rattle.groups.specs.declared.group.WireMessageIter.{WireMessageIter}
+use Rattle.groups.specs.declared.group.MessageStep.{MessageStep}
+use Rattle.groups.specs.declared.group.MessageStep.the-variants as step
+use Rattle.groups.specs.Group.{firstPart, messageBy, messageAt}
+use Rattle.elements.specs.Element.{Item as Shown}
+use Rattle.walk.specs.declared.state.Messages.{Messages}
+use Rattle.walk.specs.Loose.{fieldOf, viewedAs, Placed, itemThen, viewedAll, looseAhead}
+use Rattle.walk.specs.Said.{atPlace}
+
+-- ---- a field ends where its payload does
+
+module _ (s : List ℕ) where
+  payload-ends : (t : Tag) (q : ℕ) (r : Read Payload) {f : Field} {k : ℕ} → payload s t q ≡ r → withPayload t r ≡ item f k → f .payload .start + f .payload .len ≡ k
+  payload-ends t q (taken v n) {f} {k} e g =
+      let same : v ≡ f .payload = cc in
+      let behind : n ≡ k = cc in
+      subst (λ (x : Payload). x .start + x .len ≡ k) same (part-ends s t q e ∙ behind)
+  payload-ends t q (refused n) e g = absurd (let z : _≡_ {A = ℕ} 0 1 = cc in omega arith)
+
+  tag-ends : (a : TagAt) {f : Field} {k : ℕ} → withTag s a ≡ item f k → f .payload .start + f .payload .len ≡ k
+  tag-ends done g = absurd (let z : _≡_ {A = ℕ} 0 1 = cc in omega arith)
+  tag-ends (untagged n) g = absurd (let z : _≡_ {A = ℕ} 0 1 = cc in omega arith)
+  tag-ends (tagged t q) g = payload-ends t q (payload s t q) refl g
+
+  field-ends : (p : ℕ) {f : Field} {k : ℕ} → fieldAt s p ≡ item f k → f .payload .start + f .payload .len ≡ k
+  unfolding fieldAt
+  field-ends p e = tag-ends (tagAt s p) e
+
+-- ---- the first message, and those behind it
+
+-- all messages of field k by the first of them: none, or it and those from its end on
+pub data Parts (k : ℕ) (t : List ℕ) : Part → List Part → Type 0 where
+  no-part : Parts k t noPart []
+  part-and : (start len : ℕ) → start + len ≤ length t → Parts k t (partBy start len) (partBy start len ∷ partsOf k (messageFrom t (start + len)))
+
+module _ (k : ℕ) (t : List ℕ) where
+  parts-behind : (p : ℕ) (i : Item Field MessageEnd) → fieldAt t p ≡ i → ((q : ℕ) → p < q → q ≤ length t → Parts k t (firstPart k (messageFrom t q)) (partsOf k (messageFrom t q)))
+      → Parts k t (firstPart k (follow i (messageFrom t))) (partsOf k (follow i (messageFrom t)))
+  unfolding firstPart partsOf
+  parts-behind p (last e) g on = no-part
+  parts-behind p (item f q) g on = by (isPart k f)
+    where
+      forward : (p < q) × (q ≤ length t)
+      forward = fields-forward t .moves p q f g
+
+      own : Part
+      own = partBy (f .payload .start) (f .payload .len)
+
+      stands : Parts k t own (own ∷ partsOf k (messageFrom t q))
+      stands =
+          subst (λ (n : ℕ). Parts k t own (own ∷ partsOf k (messageFrom t n))) (field-ends t p g)
+          (part-and (f .payload .start) (f .payload .len) (omega (arith, field-ends t p g, forward)))
+
+      by : (b : Bool) → Parts k t (choose b own (firstPart k (messageFrom t q))) (choose b (own ∷ []) [] ++ partsOf k (messageFrom t q))
+      by true = stands
+      by false = on q (forward .0) (forward .1)
+
+  parts-from : (n p : ℕ) → length t - p ≤ n → Parts k t (firstPart k (messageFrom t p)) (partsOf k (messageFrom t p))
+  parts-from zero p h = rw message-from (parts-behind p (fieldAt t p) refl λ q b c. absurd (omega arith))
+  parts-from (suc n) p h = rw message-from (parts-behind p (fieldAt t p) refl λ q b c. parts-from n q (omega arith))
+
+  parts-by : (p : ℕ) → Parts k t (firstPart k (messageFrom t p)) (partsOf k (messageFrom t p))
+  parts-by p = parts-from (length t - p) p (omega arith)
+
+-- ---- what a walk has ahead, by the step of a group's messages
+
+-- a message found: its place behind it, the messages of the kind by it, and bounds for the code's sums
+pub record Finds (s : List ℕ) (m : Messages) (part : Part) : Type 0 where
+  pub room : part .start + part .len ≤ length s
+  pub behind : m .of .start ≤ part .start + part .len
+  pub within : part .start + part .len - m .of .start ≤ m .of .len
+  pub so : looseAhead s m ≡ itemThen part (viewedAs (m .full) (m .kind) s part) (looseAhead s (atPlace m (part .start + part .len - m .of .start)))
+
+module _ (s : List ℕ) (m : Messages) (inside : m .of .start + m .of .len ≤ length s) (here : m .at ≤ m .of .len) where
+  abbrev group : List ℕ
+  group = take (m .of .len) (drop (m .of .start) s)
+
+  group-length : length group ≡ m .of .len
+  group-length = length-take-le (m .of .len) (drop (m .of .start) s) (simp length-drop (omega arith))
+
+  abbrev field : ℕ
+  field = fieldOf (m .kind)
+
+  abbrev placed : ℕ → MessagePlace
+  placed k = record { start = m .of .start; len = m .of .len; at = m .at; field = k }
+
+  abbrev shown : List Part → Column Placed
+  shown parts = viewedAll (m .full) (m .kind) s (map (moved (m .of .start)) parts)
+
+  step-by : {k : ℕ} {r : MessageStep} → k ≡ field → r ≡ messageAt s (placed k) → r ≡ messageBy (placed field) (firstPart field (messageFrom group (m .at)))
+  unfolding messageAt
+  step-by {k} e g = g ∙ ap (λ (n : ℕ). messageAt s (placed n)) e ∙ simp (le-leb _ _ inside, le-leb _ _ here)
+
+  by-end : {first : Part} {parts : List Part} {x : WireMessageIter} → Parts field group first parts → messageBy (placed field) first ≡ step.Ended x → shown parts ≡ end ended
+  unfolding viewedAll
+  by-end no-part e = refl
+  by-end (part-and start len h) e = absurd (let z : _≡_ {A = ℕ} 0 1 = cc in omega arith)
+
+  by-refusal : {first : Part} {parts : List Part} {n : Refusal} {x : WireMessageIter} → Parts field group first parts → messageBy (placed field) first ≡ step.Refused n x → ⊥
+  by-refusal no-part e = let z : _≡_ {A = ℕ} 0 1 = cc in omega arith
+  by-refusal (part-and start len h) e = let z : _≡_ {A = ℕ} 0 1 = cc in omega arith
+
+  module _ {k : ℕ} {r : MessageStep} (e : k ≡ field) (g : r ≡ messageAt s (placed k)) where
+    pub loose-ends : {x : WireMessageIter} → r ≡ step.Ended x → looseAhead s m ≡ end ended
+    loose-ends t = by-end (parts-by field group (m .at)) (sym (step-by e g) ∙ t)
+
+    pub never-refused : {n : Refusal} {x : WireMessageIter} → r ≡ step.Refused n x → ⊥
+    never-refused t = by-refusal (parts-by field group (m .at)) (sym (step-by e g) ∙ t)
+
+    by-message : {first : Part} {parts : List Part} {part : Part} {next : WireMessageIter} → Parts field group first parts → shown parts ≡ looseAhead s m → messageBy (placed field) first ≡ step.Message part next → Finds s m part
+    unfolding viewedAll
+    by-message no-part is e = absurd (let z : _≡_ {A = ℕ} 0 1 = cc in omega arith)
+    by-message {part = part} (part-and start len h) is e =
+        let same : partBy (m .of .start + start) len ≡ part = cc in
+        subst (Finds s m) same
+        (record {
+          room = omega (arith, h, group-length);
+          behind = omega arith;
+          within = omega (arith, h, group-length);
+          so =
+              sym is
+              ∙ ap (λ (at : ℕ). itemThen (partBy (m .of .start + start) len) (viewedAs (m .full) (m .kind) s (partBy (m .of .start + start) len)) (looseAhead s (atPlace m at))) (omega arith);
+        })
+
+    pub finds : {part : Part} {next : WireMessageIter} → r ≡ step.Message part next → Finds s m part
+    finds t = by-message (parts-by field group (m .at)) refl (sym (step-by e g) ∙ t)
+
+-- the first that is ahead, where a message is found: what its view refuses ends the walk
+module _ {s : List ℕ} {m : Messages} {part : Part} (f : Finds s m part) where
+  pub found-refused : {n : Refusal} → viewedAs (m .full) (m .kind) s part ≡ outcome.refused n → looseAhead s m ≡ end (cut n)
+  found-refused e = f .so ∙ ap (λ (x : Outcome Shown). itemThen part x (looseAhead s (atPlace m (part .start + part .len - m .of .start)))) e
+
+  pub found-kept : {i : Shown} → viewedAs (m .full) (m .kind) s part ≡ kept i → looseAhead s m ≡ more (record { message = part; item = i }) (looseAhead s (atPlace m (part .start + part .len - m .of .start)))
+  found-kept e = f .so ∙ ap (λ (x : Outcome Shown). itemThen part x (looseAhead s (atPlace m (part .start + part .len - m .of .start)))) e

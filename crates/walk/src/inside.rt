@@ -1,0 +1,66 @@
+// Whether a walk's state is inside a buffer and a record: every range in it, and its group's number.
+ghost use mathlib.Core.Path.{_≡_};
+ghost use Rattle.walk.specs.State.{groupInside, denseInside, stateInside};
+use crate::state::BlockElementsIter;
+use crate::state::DenseNodeIter;
+use crate::state::GroupRangeAt;
+use columns::inside::are_infos_inside;
+use columns::inside::are_rows_inside;
+use columns::inside::is_column_inside;
+use fields::part::part_fits;
+use wire::record::WireBlock;
+
+fn group_inside(buffer: &[u8], block: WireBlock, of: GroupRangeAt) -> bool
+    ensures { λ r. ⌜ r ≡ groupInside (now (buffer .entry)) block of ⌝ }
+{
+    if block.groups <= of.group {
+        return false;
+    }
+    part_fits(buffer.len(), of.start, of.len)
+}
+
+fn dense_inside(buffer: &[u8], block: WireBlock, nodes: DenseNodeIter) -> bool
+    ensures { λ r. ⌜ r ≡ denseInside (now (buffer .entry)) block nodes ⌝ }
+{
+    let of = nodes.of;
+    let message = nodes.message;
+    let columns = nodes.columns;
+    let rows = columns.rows;
+    let keyvals = columns.keyvals;
+    if !group_inside(buffer, block, of) {
+        return false;
+    }
+    if !part_fits(buffer.len(), message.start, message.len) {
+        return false;
+    }
+    if !are_rows_inside(buffer, rows) {
+        return false;
+    }
+    is_column_inside(buffer, keyvals)
+}
+
+// Whether a state is inside: 14 before anything is read where it is not.
+pub(crate) fn state_inside(buffer: &[u8], block: WireBlock, state: BlockElementsIter) -> bool
+    ensures { λ r. ⌜ r ≡ stateInside (now (buffer .entry)) block state ⌝ }
+{
+    match state {
+        BlockElementsIter::Ended => true,
+        BlockElementsIter::Between(b) => b.group <= block.groups,
+        BlockElementsIter::DenseNodes(nodes) => dense_inside(buffer, block, nodes),
+        BlockElementsIter::FullDenseNodes(full) => {
+            let nodes = full.nodes;
+            let infos = full.infos;
+            if !dense_inside(buffer, block, nodes) {
+                return false;
+            }
+            are_infos_inside(buffer, infos)
+        }
+        BlockElementsIter::Messages(m) => {
+            let of = m.of;
+            if !group_inside(buffer, block, of) {
+                return false;
+            }
+            m.at <= of.len
+        }
+    }
+}

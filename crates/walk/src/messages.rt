@@ -1,0 +1,151 @@
+// The messages of a group: its nodes, its ways, its relations, each viewed when it is handed out.
+ghost use mathlib.Core.Path.{_≡_};
+ghost use mathlib.Core.Bool.{true};
+ghost use Prim.Native.Nat.{_+_, _≤_};
+ghost use lib.ListN.{length};
+ghost use Rattle.fields.specs.Outcome.{each};
+ghost use Rattle.fields.specs.View.{viewIn};
+ghost use Rattle.fields.specs.Schema.{node, way, relation};
+ghost use Rattle.views.specs.Node.{nodeAt};
+ghost use Rattle.views.specs.Way.{wayAt};
+ghost use Rattle.views.specs.Relation.{relationAt};
+ghost use Rattle.walk.specs.Loose.{fieldOf, infoIn, nodeIn, wayIn, relationIn, viewedAs, looseAhead};
+ghost use Rattle.walk.specs.Said.{viewedOf, looseSaid, placeInside};
+use crate::state::Loose;
+use crate::state::Messages;
+use elements::element::Element;
+use fields::part::NONE;
+use fields::part::Part;
+use groups::group::MessagePlace;
+use groups::group::MessageStep;
+use groups::group::WireMessageIter;
+use protobuf::refusal::Refusal;
+use views::node::NodeParse;
+use views::node::WireNode;
+use views::relation::RelationParse;
+use views::relation::WireRelation;
+use views::way::WayParse;
+use views::way::WireWay;
+
+// A message as an element.
+pub enum Viewed {
+    Element(Element),
+    Refused(Refusal),
+}
+
+pub enum LooseStep {
+    Found {
+        message: Part,
+        element: Element,
+        at: usize,
+    },
+    Ended,
+    Refused(Refusal),
+}
+
+fn field_of(kind: Loose) -> u32
+    ensures { λ r. ⌜ r ≡ fieldOf kind ⌝ }
+{
+    match kind {
+        Loose::Nodes => 1,
+        Loose::Ways => 3,
+        Loose::Relations => 4,
+    }
+}
+
+// An Info's part, which a plain walk does not hand out.
+fn info_in(full: bool, part: Part) -> Part
+    ensures { λ r. ⌜ r ≡ infoIn full part ⌝ }
+{
+    if full { part } else { NONE }
+}
+
+fn view_node(buffer: &[u8], full: bool, message: Part) -> Viewed
+    ensures { λ r. ⌜ viewedOf (now (buffer .entry)) r ≡ each (λ slots. nodeIn full (nodeAt (message .start) slots)) (viewIn node (now (buffer .entry)) (message .start) (message .len)) ⌝ }
+{
+    let p = WireNode::parse(buffer, message.start, message.len);
+    match p {
+        NodeParse::Refused(n) => Viewed::Refused(n),
+        NodeParse::Parsed(v) => {
+            let part = v.info;
+            let info = info_in(full, part);
+            let mut shown = v;
+            shown.info = info;
+            Viewed::Element(Element::Node(shown))
+        }
+    }
+}
+
+fn view_way(buffer: &[u8], full: bool, message: Part) -> Viewed
+    ensures { λ r. ⌜ viewedOf (now (buffer .entry)) r ≡ each (λ slots. wayIn full (wayAt (message .start) slots)) (viewIn way (now (buffer .entry)) (message .start) (message .len)) ⌝ }
+{
+    let p = WireWay::parse(buffer, message.start, message.len);
+    match p {
+        WayParse::Refused(n) => Viewed::Refused(n),
+        WayParse::Parsed(v) => {
+            let part = v.info;
+            let info = info_in(full, part);
+            let mut shown = v;
+            shown.info = info;
+            Viewed::Element(Element::Way(shown))
+        }
+    }
+}
+
+fn view_relation(buffer: &[u8], full: bool, message: Part) -> Viewed
+    ensures { λ r. ⌜ viewedOf (now (buffer .entry)) r ≡ each (λ slots. relationIn full (relationAt (message .start) slots)) (viewIn relation (now (buffer .entry)) (message .start) (message .len)) ⌝ }
+{
+    let p = WireRelation::parse(buffer, message.start, message.len);
+    match p {
+        RelationParse::Refused(n) => Viewed::Refused(n),
+        RelationParse::Parsed(v) => {
+            let part = v.info;
+            let info = info_in(full, part);
+            let mut shown = v;
+            shown.info = info;
+            Viewed::Element(Element::Relation(shown))
+        }
+    }
+}
+
+fn view(buffer: &[u8], full: bool, kind: Loose, message: Part) -> Viewed
+    ensures { λ r. ⌜ viewedOf (now (buffer .entry)) r ≡ viewedAs full kind (now (buffer .entry)) message ⌝ }
+{
+    match kind {
+        Loose::Nodes => view_node(buffer, full, message),
+        Loose::Ways => view_way(buffer, full, message),
+        Loose::Relations => view_relation(buffer, full, message),
+    }
+}
+
+// The next message of the state's kind, viewed, with the place behind it.
+pub(crate) fn next_loose(buffer: &[u8], m: Messages) -> LooseStep
+    requires { ⌜ (m .of .start + m .of .len ≤ length (now buffer)) × (m .at ≤ m .of .len) ⌝ }
+    ensures says { λ r. ⌜ looseSaid (now (buffer .entry)) m r ≡ looseAhead (now (buffer .entry)) m ⌝ }
+    ensures inside { λ r. ⌜ placeInside m r ≡ true ⌝ }
+{
+    let of = m.of;
+    let kind = m.kind;
+    let place = MessagePlace {
+        start: of.start,
+        len: of.len,
+        at: m.at,
+        field: field_of(kind),
+    };
+    let r = WireMessageIter::At(place).step(buffer);
+    match r {
+        MessageStep::Refused { refusal, next: _ } => LooseStep::Refused(refusal),
+        MessageStep::Ended { next: _ } => LooseStep::Ended,
+        MessageStep::Message { part, next: _ } => {
+            let v = view(buffer, m.full, kind, part);
+            match v {
+                Viewed::Refused(n) => LooseStep::Refused(n),
+                Viewed::Element(element) => LooseStep::Found {
+                    message: part,
+                    element,
+                    at: part.start + part.len - of.start,
+                },
+            }
+        }
+    }
+}

@@ -1,0 +1,196 @@
+// The moves of a walk that hand out nothing: into a group, and from one kind of its messages to the next.
+ghost use mathlib.Core.Path.{_≡_};
+ghost use mathlib.Core.Bool.{true};
+ghost use Prim.Native.Nat.{_+_, _-_, _^_, _≤_, _<_};
+ghost use Rattle.lookup.specs.Lookup.{isRecordInside};
+ghost use Rattle.columns.specs.InStep.{startOf};
+ghost use Rattle.walk.specs.State.{groupInside, denseInside};
+ghost use Rattle.walk.specs.Walk.{rowsStart, infosStart, groupsFrom};
+ghost use Rattle.walk.specs.Said.{leftFrom, beforeKind, behindKind, refusedBy, atDense, atInfos, Quietly};
+use crate::block_elements::ElementStep;
+use crate::state::Between;
+use crate::state::BlockElementsIter;
+use crate::state::DenseColumns;
+use crate::state::DenseNodeIter;
+use crate::state::FullDenseNodeIter;
+use crate::state::GroupRangeAt;
+use crate::state::Loose;
+use crate::state::Messages;
+use columns::info_rows::InfoColumns;
+use columns::reader::start_column;
+use columns::sums::start_sum32;
+use columns::sums::start_sum64;
+use columns::zip::RowColumns;
+use fields::part::Part;
+use groups::group::DenseFound;
+use groups::group::dense;
+use lookup::by_number::GroupRange;
+use lookup::by_number::group;
+use protobuf::refusal::Refusal;
+use views::dense_info::DenseInfoParse;
+use views::dense_info::WireDenseInfo;
+use views::dense_nodes::DenseNodesParse;
+use views::dense_nodes::WireDenseNodes;
+use wire::record::WireBlock;
+
+// A move to another state; one to plain dense nodes, which a caller steps over itself; or what a step says.
+pub enum Quiet {
+    Moved(BlockElementsIter),
+    Dense(DenseNodeIter),
+    Says(ElementStep),
+}
+
+pub(crate) fn refuse(refusal: Refusal) -> Quiet
+    ensures { λ r. ⌜ r ≡ refusedBy refusal ⌝ }
+{
+    Quiet::Says(ElementStep::Refused {
+        refusal,
+        next: BlockElementsIter::Ended,
+    })
+}
+
+// Before the messages of a kind.
+pub(crate) fn messages_of(full: bool, of: GroupRangeAt, kind: Loose) -> BlockElementsIter
+    ensures { λ r. ⌜ r ≡ beforeKind full of kind ⌝ }
+{
+    BlockElementsIter::Messages(Messages {
+        full,
+        of,
+        kind,
+        at: 0,
+    })
+}
+
+// Behind the last message of a kind.
+pub(crate) fn behind_kind(full: bool, of: GroupRangeAt, kind: Loose) -> BlockElementsIter
+    requires { ⌜ of .group + 1 < 2 ^ 64 ⌝ }
+    ensures { λ r. ⌜ r ≡ behindKind full of kind ⌝ }
+{
+    match kind {
+        Loose::Nodes => messages_of(full, of, Loose::Ways),
+        Loose::Ways => messages_of(full, of, Loose::Relations),
+        Loose::Relations => BlockElementsIter::Between(Between {
+            full,
+            group: of.group + 1,
+        }),
+    }
+}
+
+fn start_columns(v: WireDenseNodes) -> DenseColumns
+    ensures { λ r. ⌜ r ≡ record { rows = rowsStart v; keyvals = startOf (v .keyvals) } ⌝ }
+{
+    let id = v.id;
+    let lat = v.lat;
+    let lon = v.lon;
+    let keyvals = v.keyvals;
+    DenseColumns {
+        rows: RowColumns {
+            ids: start_sum64(id),
+            lats: start_sum64(lat),
+            lons: start_sum64(lon),
+        },
+        keyvals: start_column(keyvals),
+    }
+}
+
+fn start_infos(v: WireDenseInfo) -> InfoColumns
+    ensures { λ r. ⌜ r ≡ infosStart v ⌝ }
+{
+    let version = v.version;
+    let timestamp = v.timestamp;
+    let changeset = v.changeset;
+    let uid = v.uid;
+    let user = v.user;
+    let visible = v.visible;
+    InfoColumns {
+        version: start_column(version),
+        timestamp: start_sum64(timestamp),
+        changeset: start_sum64(changeset),
+        uid: start_sum32(uid),
+        user: start_sum32(user),
+        visible: start_column(visible),
+    }
+}
+
+// To the dense nodes of a group with metadata.
+fn enter_infos(buffer: &[u8], block: WireBlock, nodes: DenseNodeIter, info: Part) -> Quiet
+    requires { ⌜ denseInside (now buffer) block nodes ≡ true ⌝ }
+    ensures { λ r. ⌜ Quietly (now (buffer .entry)) block (leftFrom block (nodes .of .group)) (atInfos (now (buffer .entry)) block nodes info) r ⌝ }
+{
+    let q = WireDenseInfo::parse(buffer, info.start, info.len);
+    match q {
+        DenseInfoParse::Refused(n) => refuse(n),
+        DenseInfoParse::Parsed(v) => {
+            Quiet::Moved(BlockElementsIter::FullDenseNodes(FullDenseNodeIter {
+                nodes,
+                infos: start_infos(v),
+            }))
+        }
+    }
+}
+
+// To the dense nodes of a group.
+fn enter_dense(
+    buffer: &[u8],
+    block: WireBlock,
+    full: bool,
+    of: GroupRangeAt,
+    message: Part,
+) -> Quiet
+    requires { ⌜ groupInside (now buffer) block of ≡ true ⌝ }
+    ensures { λ r. ⌜ Quietly (now (buffer .entry)) block (leftFrom block (of .group)) (atDense full (now (buffer .entry)) block of message) r ⌝ }
+{
+    let p = WireDenseNodes::parse(buffer, message.start, message.len);
+    match p {
+        DenseNodesParse::Refused(n) => refuse(n),
+        DenseNodesParse::Parsed(v) => {
+            let info = v.info;
+            let nodes = DenseNodeIter {
+                of,
+                message,
+                columns: start_columns(v),
+            };
+            if full {
+                enter_infos(buffer, block, nodes, info)
+            } else {
+                Quiet::Dense(nodes)
+            }
+        }
+    }
+}
+
+// Into a group: its entry, then the dense pass over all its fields.
+pub(crate) fn enter(buffer: &[u8], block: WireBlock, at: Between) -> Quiet
+    requires { ⌜ (isRecordInside (now buffer) block ≡ true) × (at .group ≤ block .groups) ⌝ }
+    ensures { λ r. ⌜ Quietly (now (buffer .entry)) block (leftFrom block (at .group)) (groupsFrom (at .full) (now (buffer .entry)) block (block .groups - at .group) (at .group)) r ⌝ }
+{
+    let full = at.full;
+    let number = at.group;
+    if block.groups <= number {
+        return Quiet::Says(ElementStep::Ended {
+            next: BlockElementsIter::Ended,
+        });
+    }
+    let g = group(buffer, block, number);
+    match g {
+        GroupRange::Refused(n) => refuse(n),
+        GroupRange::Range(p) => {
+            let of = GroupRangeAt {
+                group: number,
+                start: p.start,
+                len: p.len,
+            };
+            let d = dense(buffer, p.start, p.len);
+            match d {
+                DenseFound::Refused(n) => refuse(n),
+                DenseFound::Found(message) => {
+                    if message.present {
+                        enter_dense(buffer, block, full, of, message)
+                    } else {
+                        Quiet::Moved(messages_of(full, of, Loose::Nodes))
+                    }
+                }
+            }
+        }
+    }
+}
