@@ -22,3 +22,4 @@ pub mod Sub
 pub mod Record
 pub mod Same
 pub mod Claim
+pub mod Tie

@@ -1,7 +1,10 @@
 -- One file of laws for each subject.
-pub mod Tests
+pub mod Inside
 pub mod Dense
 pub mod Viewed
 pub mod Loose
+pub mod Ahead
+pub mod Quiet
 pub mod Enter
 pub mod Steps
+pub mod Walking

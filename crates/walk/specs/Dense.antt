@@ -6,13 +6,12 @@ use mathlib.Core.List.{List}
 use mathlib.Core.Option.{Option, none, some}
 use lib.IntN.{ℤ}
 use lib.Dec.{eqb}
-use Rattle.protobuf.specs.declared.refusal.Refusal.{Refusal}
 use Rattle.protobuf.specs.Refusal.{number}
 use Rattle.numbers.specs.Choose.{choose}
 use Rattle.protobuf.specs.Stream.{end, more}
 use Rattle.protobuf.specs.Column.{ColumnEnd, ended, cut, Column}
 use Rattle.fields.specs.Outcome.{Outcome, kept, refused}
-use Rattle.block.specs.Infos.{Info, Infos, NextInfo, present, missing, stopped, nextInfo}
+use Rattle.block.specs.Infos.{Infos, NextInfo, present, missing, stopped, nextInfo}
 use Rattle.block.specs.Tags.{NodePairs, takePairs}
 use Rattle.columns.specs.InStep.{ahead}
 use Rattle.columns.specs.Zip.{Both, rowsAhead, infosAhead}

@@ -5,6 +5,7 @@ pub mod Loose
 pub mod State
 pub mod Walk
 pub mod Said
+pub mod Moves
 pub mod Shows
 pub mod Run
 pub mod Whole

@@ -1,7 +1,7 @@
 -- The nodes, ways and relations that a walk has ahead in a group (document 01, section 4), over any buffer: each message of the kind's field
 -- in stored order, viewed when it is handed out; what the view refuses ends the walk. The fields end quietly where the group has a wire
 -- error: a walk has read all of them when it entered the group. A plain walk hands out no Info.
-use Prim.Native.Nat.{ℕ, _+_}
+use Prim.Native.Nat.{ℕ}
 use mathlib.Core.List.{List, [], _∷_, map}
 use mathlib.Core.Bool.{Bool, true, false}
 use lib.ListN.{take, drop}

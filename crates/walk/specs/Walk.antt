@@ -1,8 +1,7 @@
 -- What a walk has ahead (document 01, section 4), over any buffer, record and state: the elements up to its end or a number. Group by group:
 -- its entry in the table, the dense pass over all its fields, dense nodes, nodes, ways, relations. Plain or full is in the state.
-use Prim.Native.Nat.{ℕ, zero, suc, _+_, _-_}
+use Prim.Native.Nat.{ℕ, zero, suc, _-_}
 use mathlib.Core.List.{List}
-use mathlib.Core.Option.{Option, none, some}
 use mathlib.Core.Bool.{Bool, true, false}
 use lib.IntN.{pos}
 use Rattle.protobuf.specs.declared.refusal.Refusal.the-variants.{Outside}

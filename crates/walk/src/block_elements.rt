@@ -4,7 +4,8 @@ ghost use mathlib.Core.Bool.{true, false};
 ghost use Rattle.lookup.specs.Lookup.{isRecordInside};
 ghost use Rattle.walk.specs.State.{stateInside};
 ghost use Rattle.walk.specs.Walk.{fresh, elementsBy, elementsFrom, testedFrom, elementSaid, elementBehind};
-ghost use Rattle.walk.specs.Said.{over, denseSaidBy};
+ghost use Rattle.walk.specs.Said.{denseSaidBy};
+ghost use Rattle.walk.specs.Moves.{endedWalk};
 use crate::dense_nodes::DenseStep;
 use crate::dense_nodes::next_dense;
 use crate::inside::state_inside;
@@ -66,7 +67,7 @@ fn say_dense(nodes: DenseNodeIter, columns: DenseColumns) -> ElementStep
 fn advance(buffer: &[u8], block: WireBlock, state: BlockElementsIter) -> ElementStep
     requires { ⌜ (isRecordInside (now buffer) block ≡ true) × (stateInside (now buffer) block state ≡ true) ⌝ }
     ensures says { λ r. ⌜ elementSaid (now (buffer .entry)) block r ≡ elementsBy (now (buffer .entry)) block state ⌝ }
-    ensures behind { λ r. ⌜ elementBehind r ≡ over ⌝ }
+    ensures behind { λ r. ⌜ elementBehind r ≡ endedWalk ⌝ }
 {
     let mut at = state;
     loop {
@@ -93,7 +94,7 @@ fn advance(buffer: &[u8], block: WireBlock, state: BlockElementsIter) -> Element
 // The step of a state that has not ended: 14 unless record and state are inside.
 fn tested(buffer: &[u8], block: WireBlock, state: BlockElementsIter) -> ElementStep
     ensures says { λ r. ⌜ elementSaid (now (buffer .entry)) block r ≡ testedFrom (now (buffer .entry)) block state ⌝ }
-    ensures behind { λ r. ⌜ elementBehind r ≡ over ⌝ }
+    ensures behind { λ r. ⌜ elementBehind r ≡ endedWalk ⌝ }
 {
     if !is_inside(buffer, block) {
         return ElementStep::Refused {
@@ -135,7 +136,7 @@ impl BlockElementsIter {
     // anything is read. Behind the last two the state is the ended one, and a step on it says ended whatever the buffer is.
     pub(crate) fn step(self, buffer: &[u8], block: WireBlock) -> ElementStep
         ensures says { λ r. ⌜ elementSaid (now (buffer .entry)) block r ≡ elementsFrom (now (buffer .entry)) block self ⌝ }
-        ensures behind { λ r. ⌜ elementBehind r ≡ over ⌝ }
+        ensures behind { λ r. ⌜ elementBehind r ≡ endedWalk ⌝ }
     {
         match self {
             BlockElementsIter::Ended => ElementStep::Ended {
@@ -148,7 +149,7 @@ impl BlockElementsIter {
     // The same: here a step is never quiet.
     pub(crate) fn next(self, buffer: &[u8], block: WireBlock) -> ElementStep
         ensures says { λ r. ⌜ elementSaid (now (buffer .entry)) block r ≡ elementsFrom (now (buffer .entry)) block self ⌝ }
-        ensures behind { λ r. ⌜ elementBehind r ≡ over ⌝ }
+        ensures behind { λ r. ⌜ elementBehind r ≡ endedWalk ⌝ }
     {
         self.step(buffer, block)
     }

@@ -1,9 +1,11 @@
 // block.rs and dense.rs of the Rust, their walks: a block's elements one after the other, group by group: dense nodes, nodes, ways, relations.
+// It reads a lent buffer by a record and a state, and hands out elements with the state behind each, the end, or a refusal of document 01's
+// table.
 pub mod block_elements;
-pub mod dense_nodes;
-pub mod inside;
-pub mod messages;
-pub mod moves;
-pub mod settle;
+mod dense_nodes;
+mod inside;
+mod messages;
+mod moves;
+mod settle;
 pub mod state;
-pub mod steps;
+mod steps;

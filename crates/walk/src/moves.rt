@@ -6,7 +6,7 @@ ghost use Rattle.lookup.specs.Lookup.{isRecordInside};
 ghost use Rattle.columns.specs.InStep.{startOf};
 ghost use Rattle.walk.specs.State.{groupInside, denseInside};
 ghost use Rattle.walk.specs.Walk.{rowsStart, infosStart, groupsFrom};
-ghost use Rattle.walk.specs.Said.{leftFrom, beforeKind, behindKind, refusedBy, atDense, atInfos, Quietly};
+ghost use Rattle.walk.specs.Moves.{leftFrom, beforeKind, behindKind, refusedBy, atDense, atInfos, Quietly};
 use crate::block_elements::ElementStep;
 use crate::state::Between;
 use crate::state::BlockElementsIter;

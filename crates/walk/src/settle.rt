@@ -4,7 +4,7 @@ ghost use mathlib.Core.Bool.{true};
 ghost use Rattle.lookup.specs.Lookup.{isRecordInside};
 ghost use Rattle.walk.specs.State.{stateInside};
 ghost use Rattle.walk.specs.Walk.{elementsBy};
-ghost use Rattle.walk.specs.Said.{left, Quietly, Settles};
+ghost use Rattle.walk.specs.Moves.{left, Quietly, Settles};
 use crate::block_elements::ElementStep;
 use crate::moves::Quiet;
 use crate::moves::enter;
@@ -42,11 +42,16 @@ pub(crate) fn settle(buffer: &[u8], block: WireBlock, state: BlockElementsIter) 
 {
     let mut at = state;
     loop {
-        let r = quiet(buffer, block, at);
-        match r {
-            Quiet::Dense(nodes) => return Settled::Dense(nodes),
-            Quiet::Says(s) => return Settled::Says(s),
-            Quiet::Moved(next) => at = next,
+        match at {
+            BlockElementsIter::DenseNodes(nodes) => return Settled::Dense(nodes),
+            _ => {
+                let r = quiet(buffer, block, at);
+                match r {
+                    Quiet::Dense(nodes) => return Settled::Dense(nodes),
+                    Quiet::Says(s) => return Settled::Says(s),
+                    Quiet::Moved(next) => at = next,
+                }
+            }
         }
     }
 }

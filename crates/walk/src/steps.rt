@@ -1,12 +1,11 @@
 // One step of a walk among a group's elements: a dense node with metadata, or a message.
 ghost use mathlib.Core.Path.{_≡_};
 ghost use mathlib.Core.Bool.{true};
-ghost use Prim.Native.Nat.{_-_};
-ghost use Rattle.columns.specs.Inside.{also, infosInside};
 ghost use Rattle.lookup.specs.Lookup.{isRecordInside};
-ghost use Rattle.walk.specs.State.{denseInside, stateInside};
+ghost use Rattle.walk.specs.State.{stateInside};
 ghost use Rattle.walk.specs.Walk.{elementsBy};
-ghost use Rattle.walk.specs.Said.{denseElement, left, amongFull, amongMessages, Quietly};
+ghost use Rattle.walk.specs.Said.{denseElement};
+ghost use Rattle.walk.specs.Moves.{left, amongFull, amongMessages, Quietly};
 use crate::block_elements::ElementStep;
 use crate::dense_nodes::FullDenseStep;
 use crate::dense_nodes::next_full_dense;

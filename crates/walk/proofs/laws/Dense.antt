@@ -29,8 +29,8 @@ use Rattle.columns.proofs.laws.InStep.{stepped}
 use Rattle.columns.proofs.laws.KeysVals.{tag-of-zero, behind-done}
 use Rattle.elements.specs.Element.{RowInfo, row, DenseItem}
 use Rattle.walk.specs.Dense.{Row, Metadata, byInfo, readInfo, rowsEnd, behindPairs, nodeBy, nodesOf}
-use Rattle.walk.specs.Said.{ReadRow, read, stopped, readRow}
-use Rattle.walk.proofs.laws.Tests.{both-hold}
+use Rattle.walk.specs.Said.{read, stopped, readRow}
+use Rattle.walk.proofs.laws.Inside.{both-hold}
 
 -- ---- a node without pairs
 
@@ -88,12 +88,12 @@ module _ {A : Type 0} (x : Outcome NodePairs) (others : Column ℕ → Column A)
 -- ---- infos
 
 module _ {A : Type 0} (with : RowInfo → Metadata → Column A) where
-  pub info-stopped : (n : NextInfo) {r : Refusal} → readRow n ≡ stopped r → byInfo n with ≡ end (cut r)
+  info-stopped : (n : NextInfo) {r : Refusal} → readRow n ≡ stopped r → byInfo n with ≡ end (cut r)
   info-stopped (present i rest) e = absurd (let z : _≡_ {A = ℕ} 0 1 = cc in omega arith)
   info-stopped (missing rest) e = absurd (let z : _≡_ {A = ℕ} 0 1 = cc in omega arith)
   info-stopped (next.stopped r) e = cc
 
-  pub info-read : (n : NextInfo) {i : RowInfo} {x : Infos} → readRow n ≡ read i x → byInfo n with ≡ with i (some x)
+  info-read : (n : NextInfo) {i : RowInfo} {x : Infos} → readRow n ≡ read i x → byInfo n with ≡ with i (some x)
   info-read (present i rest) e = cc
   info-read (missing rest) e = cc
   info-read (next.stopped r) e = absurd (let z : _≡_ {A = ℕ} 0 1 = cc in omega arith)

@@ -8,14 +8,14 @@ use native.Mathlib.Omega.{arith}
 use lib.Dec.{leb, ltb}
 use lib.ListN.{length, take, drop, length-drop}
 use lib.Seq.{length-take-le}
-use borrow.Author.Tests.{leb-true, le-leb, lt-ltb, ltb-true}
+use borrow.Author.Tests.{leb-true, le-leb, lt-ltb}
 use Rattle.protobuf.specs.declared.refusal.Refusal.{Refusal}
 use Rattle.protobuf.specs.declared.refusal.Refusal.the-variants.{Outside}
-use Rattle.numbers.specs.Choose.{choose}
 use Rattle.protobuf.specs.Stream.{end}
 use Rattle.protobuf.specs.Column.{ended, cut, Column}
+use Rattle.numbers.specs.Choose.{choose}
 use Rattle.fields.specs.declared.part.Part.{Part}
-use Rattle.fields.specs.Outcome.{Outcome, kept, refused, each}
+use Rattle.fields.specs.Outcome.{kept, refused, each}
 use Rattle.fields.specs.Part.{moved, isInside}
 use Rattle.fields.specs.View.{Schema, Slots, view, viewIn}
 use Rattle.fields.specs.Schema.{denseNodes, denseInfo}
@@ -25,29 +25,33 @@ use Rattle.views.specs.declared.dense_nodes.WireDenseNodes.{WireDenseNodes}
 use Rattle.views.specs.declared.dense_info.WireDenseInfo.{WireDenseInfo}
 use Rattle.views.specs.DenseNodes.{denseNodesAt}
 use Rattle.views.specs.DenseInfo.{denseInfoAt}
+use Rattle.groups.specs.Group.{denseIn}
+use Rattle.wire.specs.declared.record.WireBlock.{WireBlock}
+use Rattle.lookup.specs.declared.by_number.GroupRange.{GroupRange}
+use Rattle.lookup.specs.Lookup.{entryAt, isRecordInside, groupAt}
+use Rattle.lookup.specs.declared.by_number.GroupRange.the-variants as range
 use Rattle.columns.specs.InStep.{startOf}
-use Rattle.columns.specs.Inside.{also, columnInside, infosInside}
+use Rattle.columns.specs.Inside.{columnInside, infosInside}
 use Rattle.columns.specs.declared.info_rows.InfoColumns.{InfoColumns}
 use Rattle.columns.proofs.laws.Inside.{also-true}
 use Rattle.columns.proofs.laws.InStep.{start-absent, start-here}
-use Rattle.wire.specs.declared.record.WireBlock.{WireBlock}
-use Rattle.groups.specs.Group.{denseIn}
-use Rattle.lookup.specs.declared.by_number.GroupRange.{GroupRange}
-use Rattle.lookup.specs.declared.by_number.GroupRange.the-variants as range
-use Rattle.lookup.specs.Lookup.{entryAt, isRecordInside, groupAt}
 use Rattle.walk.specs.declared.state.GroupRangeAt.{GroupRangeAt}
 use Rattle.walk.specs.declared.state.DenseColumns.{DenseColumns}
 use Rattle.walk.specs.declared.state.DenseNodeIter.{DenseNodeIter}
-use Rattle.walk.specs.declared.state.Loose.the-variants as kind
 use Rattle.walk.specs.declared.state.BlockElementsIter.{BlockElementsIter}
-use Rattle.walk.specs.declared.state.BlockElementsIter.the-variants as walk
-use Rattle.walk.specs.declared.block_elements.ElementStep.the-variants as step
 use Rattle.walk.specs.declared.moves.Quiet.{Quiet}
-use Rattle.walk.specs.declared.moves.Quiet.the-variants as quiet
 use Rattle.walk.specs.State.{groupInside, denseInside}
 use Rattle.walk.specs.Walk.{Found, _then_, behind, messagesOf, fromNodes, fromDense, rowsStart, infosStart, enterDense, enterFound, enterRange, groupsFrom, groupsBehind}
-use Rattle.walk.specs.Said.{leftFrom, beforeKind, columnsInside, refusedBy, atDense, atInfos, Quietly}
-use Rattle.walk.proofs.laws.Tests.{both-hold}
+use Rattle.walk.specs.Said.{columnsInside}
+use Rattle.walk.specs.Moves.{leftFrom, beforeKind, atDense, atInfos, Quietly}
+use Rattle.walk.specs.declared.state.Loose.the-variants as kind
+use Rattle.walk.specs.declared.state.BlockElementsIter.the-variants as walk
+use Rattle.walk.specs.declared.block_elements.ElementStep.the-variants as step
+use Rattle.walk.specs.declared.moves.Quiet.the-variants as quiet
+use Rattle.walk.specs.declared.dense_nodes.FullDenseStep.the-variants as full
+use Rattle.walk.proofs.laws.Inside.{group-below, dense-group}
+use Rattle.walk.proofs.laws.Ahead.{behind-refused, behind-kept}
+use Rattle.walk.proofs.laws.Quiet.{near}
 
 -- ---- columns at the start of a part
 
@@ -100,32 +104,9 @@ module _ (s : List ℕ) (small : length s < 2 ^ 64) where
       (also-true (column-started denseInfoAt denseInfo start len e (λ v. v .user) 5 (λ slots. refl))
       (column-started denseInfoAt denseInfo start len e (λ v. v .visible) 6 (λ slots. refl))))))
 
--- ---- moves
-
--- what is read whole, and then a stream behind it
-module _ {A B : Type 0} {x : Outcome A} (f : A → Column B) (others : Column B) where
-  pub behind-refused : {n : Refusal} → x ≡ refused n → behind x f then others ≡ end (cut n)
-  unfolding _then_
-  behind-refused e = ap (λ (y : Outcome A). behind y f then others) e
-
-  pub behind-kept : {a : A} → x ≡ kept a → behind x f then others ≡ f a then others
-  behind-kept e = ap (λ (y : Outcome A). behind y f then others) e
-
-pub quiet-refused : {s : List ℕ} {r : WireBlock} {m : ℕ} {c : Column Found} {q : Quiet} (n : Refusal) → q ≡ refusedBy n → c ≡ end (cut n) → Quietly s r m c q
-quiet-refused {s} {r} {m} {c} n e g = subst (Quietly s r m c) (sym e) (record { says = sym g; on = refl; behind = refl })
+-- ---- to dense nodes
 
 module _ (s : List ℕ) (r : WireBlock) (small : length s < 2 ^ 64) where
-  -- a group that is inside has groups left from it on
-  group-below : (of : GroupRangeAt) → groupInside s r of ≡ true → of .group < r .groups
-  group-below of h = ltb-true _ _ (both-hold (ltb (of .group) (r .groups)) _ h .0)
-
-  nodes-below : (nodes : DenseNodeIter) → denseInside s r nodes ≡ true → nodes .of .group < r .groups
-  nodes-below nodes h = group-below (nodes .of) (both-hold (groupInside s r (nodes .of)) _ h .0)
-
-  -- a state in the phase k of a group is nearer than the group's beginning
-  near : (group k : ℕ) → group < r .groups → 1 ≤ k → ltb (leftFrom r group - k) (leftFrom r group) ≡ true
-  near group k h g = lt-ltb (leftFrom r group - k) (leftFrom r group) (omega arith)
-
   pub enters-infos : (nodes : DenseNodeIter) (info : Part) {v : WireDenseInfo} {infos : InfoColumns} → denseInside s r nodes ≡ true → infos ≡ infosStart v
       → each (denseInfoAt (info .start)) (viewIn denseInfo s (info .start) (info .len)) ≡ kept v
       → Quietly s r (leftFrom r (nodes .of .group)) (atInfos s r nodes info) (quiet.Moved (walk.FullDenseNodes (record { nodes = nodes; infos = infos })))
@@ -133,7 +114,7 @@ module _ (s : List ℕ) (r : WireBlock) (small : length s < 2 ^ 64) where
       subst (λ (x : InfoColumns). Quietly s r (leftFrom r (nodes .of .group)) (atInfos s r nodes info) (quiet.Moved (walk.FullDenseNodes (record { nodes = nodes; infos = x })))) (sym is)
       (record {
         says = sym (behind-kept _ _ e);
-        on = also-true (also-true inside (infos-started s small (info .start) (info .len) e)) (near (nodes .of .group) 1 (nodes-below nodes inside) (omega arith));
+        on = also-true (also-true inside (infos-started s small (info .start) (info .len) e)) (near r (nodes .of .group) 1 (group-below s r (nodes .of) (dense-group s r nodes inside)) (omega arith));
         behind = refl;
       })
 
@@ -228,7 +209,7 @@ module _ (s : List ℕ) (r : WireBlock) where
           pub with-dense : {q : Quiet} → message .present ≡ true → Quietly s r (leftFrom r group) (atDense full s r (rangeOf p) message) q → Quietly s r (leftFrom r group) from q
           with-dense {q} h k = subst (λ (c : Column Found). Quietly s r (leftFrom r group) c q) (sym (by-presence h)) k
 
-          pub without-dense : {w : BlockElementsIter} → length s < 2 ^ 64 → message .present ≡ false → w ≡ beforeKind full (rangeOf p) kind.Nodes → Quietly s r (leftFrom r group) from (quiet.Moved w)
-          without-dense small h is =
+          pub without-dense : {w : BlockElementsIter} → message .present ≡ false → w ≡ beforeKind full (rangeOf p) kind.Nodes → Quietly s r (leftFrom r group) from (quiet.Moved w)
+          without-dense h is =
               subst (λ (x : BlockElementsIter). Quietly s r (leftFrom r group) from (quiet.Moved x)) (sym is)
-              (record { says = sym (by-presence h); on = also-true (also-true range-stands (le-leb 0 (p .len) (omega arith))) (near s r small group 2 below (omega arith)); behind = refl })
+              (record { says = sym (by-presence h); on = also-true (also-true range-stands (le-leb 0 (p .len) (omega arith))) (near r group 2 below (omega arith)); behind = refl })

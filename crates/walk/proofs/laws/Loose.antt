@@ -1,6 +1,6 @@
 -- The laws of a group's messages that are walked one at a time: the first message of a field from a place on, and those behind its end, are
 -- all of them from that place on; what is viewed of it is the first that a walk has ahead.
-use Prim.Native.Nat.{ℕ, zero, suc, _+_, _-_, _^_, _≤_, _<_}
+use Prim.Native.Nat.{ℕ, zero, suc, _+_, _-_, _≤_, _<_}
 use mathlib.Core.Path.{_≡_, refl, sym, ap, _∙_, subst}
 use mathlib.Core.List.{List, [], _∷_, _++_, map}
 use mathlib.Core.Bool.{Bool, true, false}
@@ -10,19 +10,17 @@ use lib.Seq.{length-take-le}
 use borrow.Author.Tests.{le-leb}
 use Rattle.protobuf.specs.declared.refusal.Refusal.{Refusal}
 use Rattle.numbers.specs.Choose.{choose}
-use Rattle.numbers.proofs.laws.Choose.{choose-elim}
 use Rattle.protobuf.specs.Tag.{Tag, TagAt, done, tagged, untagged, tagAt}
 use Rattle.protobuf.specs.Read.{Read, taken, refused}
 use Rattle.message.specs.Payload.{Payload, payload}
 use Rattle.protobuf.specs.Stream.{end, more, Item, last, item, follow}
 use Rattle.protobuf.specs.Column.{ended, cut, Column}
-use Rattle.message.specs.Message as M
 use Rattle.message.specs.Message.{Field, MessageEnd, withPayload, withTag, fieldAt, messageFrom}
 use Rattle.message.proofs.laws.Message.{message-from, fields-forward}
 use Rattle.message.proofs.laws.Within.{part-ends}
 use Rattle.fields.specs.declared.part.Part.{Part}
 use Rattle.fields.specs.Outcome as outcome
-use Rattle.fields.specs.Outcome.{Outcome, kept, each}
+use Rattle.fields.specs.Outcome.{Outcome, kept}
 use Rattle.fields.specs.Part.{partBy, noPart, moved}
 use Rattle.fields.specs.Parts.{isPart, partsOf}
 use Rattle.groups.specs.declared.group.MessagePlace.{MessagePlace}

@@ -6,8 +6,10 @@ use denote.Ref.{now}
 use Rattle.protobuf.proofs.laws.Read.{says}
 use Rattle.walk.specs.declared.state.BlockElementsIter.the-variants as walk
 use Rattle.walk.specs.Dense.{denseSaid}
-use Rattle.walk.specs.Said.{left, denseStepInside}
-use Rattle.walk.proofs.laws.Steps.{Walking, walk-begins, settled-says, settled-near, settled-dense, dense-keyvals, dense-refuses, dense-says, dense-nearer, dense-on}
+use Rattle.walk.specs.Said.{denseStepInside}
+use Rattle.walk.specs.Moves.{left}
+use Rattle.walk.proofs.laws.Walking.{Walking, walk-begins, settled-says, settled-near, settled-dense, dense-refuses, dense-says, dense-nearer, dense-on}
+use Rattle.walk.proofs.laws.Inside.{dense-keyvals}
 use Rattle.walk.proofs.block_elements.advance.Statement.{statement}
 use Rattle.walk.proofs.block_elements.advance.Tie as tie
 

@@ -2,7 +2,7 @@
 use borrow.Author.Needs.{needs}
 use mathlib.Core.Path.{refl, _∙_}
 use Rattle.fields.proofs.laws.Part.{refuted, confirmed}
-use Rattle.walk.proofs.laws.Steps.{record-outside, state-outside, both-inside}
+use Rattle.walk.proofs.laws.Walking.{record-outside, state-outside, both-inside}
 use Rattle.walk.proofs.block_elements.tested.Statement.{statement}
 use Rattle.walk.proofs.block_elements.tested.Tie as tie
 

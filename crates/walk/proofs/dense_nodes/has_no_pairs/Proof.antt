@@ -1,5 +1,4 @@
 -- `has_no_pairs` looks at the byte of keys_vals where it stands, if that is before the end.
-use borrow.Author.Needs.{needs}
 use native.Mathlib.Omega.{arith}
 use borrow.Author.Tests.{lt-ltb, le-ltb}
 use Rattle.walk.proofs.laws.Dense.{column-bounds}

@@ -1,7 +1,7 @@
 -- `dense_inside` makes the tests of `denseInside` in their order.
 use borrow.Author.Needs.{needs}
 use Rattle.fields.proofs.laws.Part.{refuted, confirmed}
-use Rattle.walk.proofs.laws.Tests.{first-fails, first-holds}
+use Rattle.walk.proofs.laws.Inside.{first-fails, first-holds}
 use Rattle.walk.proofs.inside.dense_inside.Statement.{statement}
 use Rattle.walk.proofs.inside.dense_inside.Tie as tie
 
@@ -39,5 +39,3 @@ dense-inside-spec =
     returns-3
     (λ c κs. search needs)
     returns-4)
-
---

@@ -1,7 +1,7 @@
 -- `group_inside` tests the number, then the range.
 use borrow.Author.Needs.{needs}
 use borrow.Author.Tests.{lt-ltb, le-ltb}
-use Rattle.walk.proofs.laws.Tests.{first-fails, first-holds}
+use Rattle.walk.proofs.laws.Inside.{first-fails, first-holds}
 use Rattle.walk.proofs.inside.group_inside.Statement.{statement}
 use Rattle.walk.proofs.inside.group_inside.Tie as tie
 

@@ -4,7 +4,7 @@ use mathlib.Core.Path.{refl, sym, ap, _∙_}
 use denote.Ref.{now}
 use Rattle.fields.proofs.laws.Part.{refuted, confirmed}
 use Rattle.walk.specs.State.{stateInside}
-use Rattle.walk.proofs.laws.Tests.{first-fails, first-holds}
+use Rattle.walk.proofs.laws.Inside.{first-fails, first-holds}
 use Rattle.walk.proofs.inside.state_inside.Statement.{statement}
 use Rattle.walk.proofs.inside.state_inside.Tie as tie
 

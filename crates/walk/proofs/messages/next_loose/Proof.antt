@@ -1,7 +1,7 @@
 -- `next_loose` views the first message of the kind from the place on, and goes on behind its end.
 use borrow.Author.Needs.{needs}
 use native.Mathlib.Omega.{arith}
-use mathlib.Core.Path.{refl, sym, ap, _∙_}
+use mathlib.Core.Path.{refl, sym}
 use borrow.Author.Tests.{le-leb}
 use denote.Ref.{now}
 use Rattle.protobuf.proofs.laws.Read.{says}

@@ -1,7 +1,7 @@
 -- `behind_kind` goes by the kind.
 use borrow.Author.Needs.{needs}
 use mathlib.Core.Path.{sym, ap, _∙_}
-use Rattle.walk.specs.Said.{behindKind}
+use Rattle.walk.specs.Moves.{behindKind}
 use Rattle.walk.proofs.moves.behind_kind.Statement.{statement}
 use Rattle.walk.proofs.moves.behind_kind.Tie as tie
 

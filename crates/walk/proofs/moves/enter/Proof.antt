@@ -1,13 +1,11 @@
 -- `enter` takes one group: its entry, the dense pass over it, and what that finds.
 use borrow.Author.Needs.{needs}
-use mathlib.Core.Path.{_≡_, sym, _∙_}
-use Prim.Native.Nat.{_<_}
+use mathlib.Core.Path.{sym, _∙_}
 use denote.Ref.{now}
 use Rattle.protobuf.proofs.laws.Read.{says}
 use Rattle.groups.specs.Group.{foundDense}
-use Rattle.lookup.specs.declared.by_number.GroupRange.the-variants as range
-use Rattle.lookup.specs.Lookup.{groupAt}
-use Rattle.walk.proofs.laws.Enter.{quiet-refused, quiet-ended, no-range, range-stands, no-pass, with-dense, without-dense}
+use Rattle.walk.proofs.laws.Quiet.{quiet-refused}
+use Rattle.walk.proofs.laws.Enter.{quiet-ended, no-range, range-stands, no-pass, with-dense, without-dense}
 use Rattle.walk.proofs.moves.enter.Statement.{statement}
 use Rattle.walk.proofs.moves.enter.Tie as tie
 
@@ -54,7 +52,7 @@ returns-5 c =
     let g = d .before .before .before .before in
     let e = g .before .before .before .before in
     let a = e .args in
-    without-dense (a .buffer .now) (a .block) (a .at .full) (a .at .group) (g .before .if1 .left) (sym (g .group .ensures .0) ∙ d .before .before .g2 .given .1) (says foundDense (d .dense .ensures) (k .before .d2 .given .1)) (e .good .0 .0) (t .if2 .left) (c .messages-of .ensures)
+    without-dense (a .buffer .now) (a .block) (a .at .full) (a .at .group) (g .before .if1 .left) (sym (g .group .ensures .0) ∙ d .before .before .g2 .given .1) (says foundDense (d .dense .ensures) (k .before .d2 .given .1)) (t .if2 .left) (c .messages-of .ensures)
 
 pub enter-spec : {M : Type 1} → statement M
 enter-spec =

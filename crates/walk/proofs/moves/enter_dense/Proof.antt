@@ -2,7 +2,9 @@
 use borrow.Author.Needs.{needs}
 use Rattle.protobuf.proofs.laws.Read.{says}
 use Rattle.views.specs.DenseNodes.{parsedDenseNodes}
-use Rattle.walk.proofs.laws.Enter.{behind-refused, quiet-refused, nodes-inside, enters-dense, enters-full}
+use Rattle.walk.proofs.laws.Ahead.{behind-refused}
+use Rattle.walk.proofs.laws.Quiet.{quiet-refused}
+use Rattle.walk.proofs.laws.Enter.{nodes-inside, enters-dense, enters-full}
 use Rattle.walk.proofs.moves.enter_dense.Statement.{statement}
 use Rattle.walk.proofs.moves.enter_dense.Tie as tie
 

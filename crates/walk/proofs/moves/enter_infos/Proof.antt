@@ -2,7 +2,9 @@
 use borrow.Author.Needs.{needs}
 use Rattle.protobuf.proofs.laws.Read.{says}
 use Rattle.views.specs.DenseInfo.{parsedDenseInfo}
-use Rattle.walk.proofs.laws.Enter.{behind-refused, quiet-refused, enters-infos}
+use Rattle.walk.proofs.laws.Ahead.{behind-refused}
+use Rattle.walk.proofs.laws.Quiet.{quiet-refused}
+use Rattle.walk.proofs.laws.Enter.{enters-infos}
 use Rattle.walk.proofs.moves.enter_infos.Statement.{statement}
 use Rattle.walk.proofs.moves.enter_infos.Tie as tie
 

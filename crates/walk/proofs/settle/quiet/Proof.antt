@@ -1,9 +1,9 @@
 -- `quiet` goes by the state; each kind of state has its own move.
 use borrow.Author.Needs.{needs}
-use mathlib.Core.Path.{refl, sym, ap, _∙_, subst}
+use mathlib.Core.Path.{sym, ap, _∙_}
 use borrow.Author.Tests.{leb-true}
 use Rattle.walk.specs.State.{stateInside}
-use Rattle.walk.proofs.laws.Steps.{stays-dense, by-state, quiet-over}
+use Rattle.walk.proofs.laws.Walking.{stays-dense, by-state, quiet-over}
 use Rattle.walk.proofs.settle.quiet.Statement.{statement}
 use Rattle.walk.proofs.settle.quiet.Tie as tie
 

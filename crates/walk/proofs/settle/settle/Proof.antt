@@ -1,7 +1,7 @@
 -- `settle` makes one move after the other, each to a state that has the same ahead and is nearer to the end.
 use borrow.Author.Needs.{needs}
-use Rattle.walk.specs.Said.{left}
-use Rattle.walk.proofs.laws.Steps.{Walking, walk-begins, settles-says, settles-dense, moves-nearer, walks-on}
+use Rattle.walk.specs.Moves.{left}
+use Rattle.walk.proofs.laws.Walking.{Walking, walk-begins, settles-here, settles-says, settles-dense, moves-nearer, walks-on}
 use Rattle.walk.proofs.settle.settle.Statement.{statement}
 use Rattle.walk.proofs.settle.settle.Tie as tie
 
@@ -14,28 +14,33 @@ abbrev μ-loop : tie.MeasureT-loop
 loop-holds : tie.Need-loop-holds Inv-loop μ-loop
 loop-holds c = walk-begins (c .before .pre .1)
 
-quiet-requires : tie.Need-quiet-requires Inv-loop μ-loop
-quiet-requires c κs = (c .before .before .pre .0, c .loop .inv .inside)
-
 returns : tie.Need-returns Inv-loop μ-loop
-returns c =
-    let q = c .before .before .before in
-    settles-dense (q .before .loop .inv) (q .quiet .ensures) (c .before .r .given .1)
+returns c = settles-here (c .before .before .before .loop .inv) (c .before .at .given .1)
+
+quiet-requires : tie.Need-quiet-requires Inv-loop μ-loop
+quiet-requires c κs =
+    let l = c .before in
+    (l .before .before .pre .0, l .loop .inv .inside)
 
 returns-2 : tie.Need-returns-2 Inv-loop μ-loop
 returns-2 c =
     let q = c .before .before .before in
-    settles-says (q .before .loop .inv) (q .quiet .ensures) (c .before .r2 .given .1)
+    settles-dense (q .before .before .loop .inv) (q .quiet .ensures) (c .before .r .given .1)
+
+returns-3 : tie.Need-returns-3 Inv-loop μ-loop
+returns-3 c =
+    let q = c .before .before .before in
+    settles-says (q .before .before .loop .inv) (q .quiet .ensures) (c .before .r2 .given .1)
 
 loop-less : tie.Need-loop-less Inv-loop μ-loop
 loop-less c =
     let q = c .before .before .before in
-    moves-nearer (q .before .loop .inv) (q .quiet .ensures) (c .before .r3 .given .1)
+    moves-nearer (q .before .before .loop .inv) (q .quiet .ensures) (c .before .r3 .given .1)
 
 loop-again : tie.Need-loop-again Inv-loop μ-loop
 loop-again c =
     let q = c .before .before .before in
-    walks-on (q .before .loop .inv) (q .quiet .ensures) (c .before .r3 .given .1)
+    walks-on (q .before .before .loop .inv) (q .quiet .ensures) (c .before .r3 .given .1)
 
 pub settle-spec : {M : Type 1} → statement M
 settle-spec =
@@ -44,11 +49,13 @@ settle-spec =
     Inv-loop
     μ-loop
     loop-holds
-    quiet-requires
     (λ c. search needs)
     returns
+    quiet-requires
     (λ c. search needs)
     returns-2
+    (λ c. search needs)
+    returns-3
     (λ c. search needs)
     loop-less
     loop-again)

@@ -4,7 +4,8 @@ use native.Mathlib.Omega.{arith}
 use mathlib.Core.Path.{sym, ap, _∙_}
 use Rattle.protobuf.proofs.laws.Read.{says}
 use Rattle.walk.specs.Said.{looseSaid, placeInside}
-use Rattle.walk.proofs.laws.Steps.{group-below, messages-group, messages-place, messages-refuse, messages-move, messages-say}
+use Rattle.walk.proofs.laws.Inside.{group-below}
+use Rattle.walk.proofs.laws.Steps.{messages-group, messages-place, messages-refuse, messages-move, messages-say}
 use Rattle.walk.proofs.steps.walk_messages.Statement.{statement}
 use Rattle.walk.proofs.steps.walk_messages.Tie as tie
 

@@ -2,7 +2,7 @@
 use borrow.Author.Needs.{needs}
 use mathlib.Core.Path.{refl, sym, ap, _∙_}
 use Rattle.walk.specs.Walk.{elementsFrom}
-use Rattle.walk.proofs.laws.Steps.{not-ended}
+use Rattle.walk.proofs.laws.Walking.{not-ended}
 use Rattle.walk.proofs.state.BlockElementsIter.step.Statement.{statement}
 use Rattle.walk.proofs.state.BlockElementsIter.step.Tie as tie
 
