@@ -24,14 +24,17 @@ use Rattle.walk.specs.declared.state.Loose.the-variants as kind
 use Rattle.walk.specs.declared.state.Messages.{Messages}
 use Rattle.walk.specs.declared.state.BlockElementsIter.{BlockElementsIter}
 use Rattle.walk.specs.declared.state.BlockElementsIter.the-variants as walk
-use Rattle.walk.specs.declared.moves.Quiet.{Quiet}
-use Rattle.walk.specs.declared.moves.Quiet.the-variants as quiet
+use Rattle.walk.specs.declared.steps.Quiet.{Quiet}
+use Rattle.walk.specs.declared.steps.Quiet.the-variants as quiet
+use Rattle.walk.specs.declared.moves.Entered.{Entered}
+use Rattle.walk.specs.declared.moves.Entered.the-variants as entered
 use Rattle.walk.specs.declared.settle.Settled.{Settled}
 use Rattle.walk.specs.declared.settle.Settled.the-variants as settled
 use Rattle.walk.specs.State.{denseInside, stateInside}
 use Rattle.walk.specs.Walk.{Found, _then_, behind, messagesOf, fromFullDense, infosStart, enterDense, groupsBehind, elementsBy, elementSaid, elementBehind}
 use Rattle.walk.specs.declared.state.DenseNodeIter.{DenseNodeIter}
 use Rattle.walk.specs.declared.state.FullDenseNodeIter.{FullDenseNodeIter}
+use Rattle.walk.specs.declared.block_elements.ElementStep.{ElementStep}
 use Rattle.walk.specs.declared.block_elements.ElementStep.the-variants as says
 
 abbrev pub endedWalk : BlockElementsIter
@@ -71,18 +74,15 @@ behindKind full of kind.Relations = walk.Between (record { full = full; group = 
 -- what a move says is what the state that it comes to has ahead
 abbrev pub quietSaid : List ℕ → WireBlock → Quiet → Column Found
 quietSaid s r (quiet.Moved w) = elementsBy s r w
-quietSaid s r (quiet.Dense d) = elementsBy s r (walk.DenseNodes d)
 quietSaid s r (quiet.Says e) = elementSaid s r e
 
 -- that state is inside, and nearer to the end than n
 abbrev pub quietOn : List ℕ → WireBlock → ℕ → Quiet → Bool
 quietOn s r n (quiet.Moved w) = also (stateInside s r w) (ltb (left r w) n)
-quietOn s r n (quiet.Dense d) = also (denseInside s r d) (leb (left r (walk.DenseNodes d)) n)
 quietOn s r n (quiet.Says e) = true
 
 abbrev pub quietBehind : Quiet → BlockElementsIter
 quietBehind (quiet.Moved w) = walk.Ended
-quietBehind (quiet.Dense d) = walk.Ended
 quietBehind (quiet.Says e) = elementBehind e
 
 -- a move of a walk that has c ahead and is n from its end
@@ -91,9 +91,12 @@ pub record Quietly (s : List ℕ) (r : WireBlock) (n : ℕ) (c : Column Found) (
   pub on : quietOn s r n q ≡ true
   pub behind : quietBehind q ≡ walk.Ended
 
--- a refusal ends the walk
-abbrev pub refusedBy : Refusal → Quiet
-refusedBy n = quiet.Says (says.Refused n walk.Ended)
+-- the end and a refusal, behind which the walk has ended
+abbrev pub endedStep : ElementStep
+endedStep = says.Ended walk.Ended
+
+abbrev pub refusedStep : Refusal → ElementStep
+refusedStep n = says.Refused n walk.Ended
 
 -- what is ahead at a group's dense message, and at its DenseInfo in a full walk
 abbrev pub atDense : Bool → List ℕ → WireBlock → GroupRangeAt → Part → Column Found
@@ -104,10 +107,31 @@ abbrev pub atInfos : List ℕ → WireBlock → DenseNodeIter → Part → Colum
 atInfos s r nodes info =
     behind (each (denseInfoAt (info .start)) (viewIn denseInfo s (info .start) (info .len))) (λ i. fromFullDense s (record { nodes = nodes; infos = infosStart i })) then groupsBehind true s r (nodes .of)
 
--- the same of moves until the walk is among plain dense nodes or says something
-abbrev pub settledAs : Settled → Quiet
-settledAs (settled.Dense d) = quiet.Dense d
-settledAs (settled.Says e) = quiet.Says e
+-- the same of a way into a group
+abbrev pub enteredAs : Entered → Quiet
+enteredAs (entered.Moved w) = quiet.Moved w
+enteredAs entered.Ended = quiet.Says endedStep
+enteredAs (entered.Refused n) = quiet.Says (refusedStep n)
 
-abbrev pub Settles : List ℕ → WireBlock → BlockElementsIter → Settled → Type 0
-Settles s r w q = Quietly s r (left r w) (elementsBy s r w) (settledAs q)
+abbrev pub Enters : List ℕ → WireBlock → ℕ → Column Found → Entered → Type 0
+Enters s r n c e = Quietly s r n c (enteredAs e)
+
+-- ---- moves until the walk is among plain dense nodes or says something
+
+abbrev pub settledSaid : List ℕ → WireBlock → Settled → Column Found
+settledSaid s r (settled.Dense d) = elementsBy s r (walk.DenseNodes d)
+settledSaid s r (settled.Says e) = elementSaid s r e
+
+abbrev pub settledOn : List ℕ → WireBlock → ℕ → Settled → Bool
+settledOn s r n (settled.Dense d) = also (denseInside s r d) (leb (left r (walk.DenseNodes d)) n)
+settledOn s r n (settled.Says e) = true
+
+abbrev pub settledBehind : Settled → BlockElementsIter
+settledBehind (settled.Dense d) = walk.Ended
+settledBehind (settled.Says e) = elementBehind e
+
+-- a walk that was in state w
+pub record Settles (s : List ℕ) (r : WireBlock) (w : BlockElementsIter) (q : Settled) : Type 0 where
+  pub says : settledSaid s r q ≡ elementsBy s r w
+  pub on : settledOn s r (left r w) q ≡ true
+  pub behind : settledBehind q ≡ walk.Ended

@@ -5,7 +5,7 @@ ghost use Rattle.lookup.specs.Lookup.{isRecordInside};
 ghost use Rattle.walk.specs.State.{stateInside};
 ghost use Rattle.walk.specs.Walk.{fresh, elementsBy, elementsFrom, testedFrom, elementSaid, elementBehind};
 ghost use Rattle.walk.specs.Said.{denseSaidBy};
-ghost use Rattle.walk.specs.Moves.{endedWalk};
+ghost use Rattle.walk.specs.Moves.{endedWalk, endedStep, refusedStep};
 use crate::dense_nodes::DenseStep;
 use crate::dense_nodes::next_dense;
 use crate::inside::state_inside;
@@ -41,6 +41,24 @@ pub enum ElementStep {
         refusal: Refusal,
         next: BlockElementsIter,
     },
+}
+
+// The end of a walk, and its refusal: behind either the state is the ended one.
+pub(crate) fn end() -> ElementStep
+    ensures { λ r. ⌜ r ≡ endedStep ⌝ }
+{
+    ElementStep::Ended {
+        next: BlockElementsIter::Ended,
+    }
+}
+
+pub(crate) fn refuse(refusal: Refusal) -> ElementStep
+    ensures { λ r. ⌜ r ≡ refusedStep refusal ⌝ }
+{
+    ElementStep::Refused {
+        refusal,
+        next: BlockElementsIter::Ended,
+    }
 }
 
 // A plain dense node, with the columns behind it.
@@ -81,10 +99,7 @@ fn advance(buffer: &[u8], block: WireBlock, state: BlockElementsIter) -> Element
                 match d {
                     DenseStep::Node(next) => return say_dense(nodes, next),
                     DenseStep::Ended => at = messages_of(false, of, Loose::Nodes),
-                    DenseStep::Refused(n) => return ElementStep::Refused {
-                        refusal: n,
-                        next: BlockElementsIter::Ended,
-                    },
+                    DenseStep::Refused(n) => return refuse(n),
                 }
             }
         }
@@ -97,16 +112,10 @@ fn tested(buffer: &[u8], block: WireBlock, state: BlockElementsIter) -> ElementS
     ensures behind { λ r. ⌜ elementBehind r ≡ endedWalk ⌝ }
 {
     if !is_inside(buffer, block) {
-        return ElementStep::Refused {
-            refusal: Refusal::Outside,
-            next: BlockElementsIter::Ended,
-        };
+        return refuse(Refusal::Outside);
     }
     if !state_inside(buffer, block, state) {
-        return ElementStep::Refused {
-            refusal: Refusal::Outside,
-            next: BlockElementsIter::Ended,
-        };
+        return refuse(Refusal::Outside);
     }
     advance(buffer, block, state)
 }
@@ -139,9 +148,7 @@ impl BlockElementsIter {
         ensures behind { λ r. ⌜ elementBehind r ≡ endedWalk ⌝ }
     {
         match self {
-            BlockElementsIter::Ended => ElementStep::Ended {
-                next: BlockElementsIter::Ended,
-            },
+            BlockElementsIter::Ended => end(),
             _ => tested(buffer, block, self),
         }
     }

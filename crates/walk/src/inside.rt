@@ -10,6 +10,7 @@ use columns::inside::is_column_inside;
 use fields::part::part_fits;
 use wire::record::WireBlock;
 
+// Whether the number is below the count, and the range in the buffer.
 fn group_inside(buffer: &[u8], block: WireBlock, of: GroupRangeAt) -> bool
     ensures { λ r. ⌜ r ≡ groupInside (now (buffer .entry)) block of ⌝ }
 {
@@ -19,6 +20,7 @@ fn group_inside(buffer: &[u8], block: WireBlock, of: GroupRangeAt) -> bool
     part_fits(buffer.len(), of.start, of.len)
 }
 
+// Whether the group, the message and all four columns are inside.
 fn dense_inside(buffer: &[u8], block: WireBlock, nodes: DenseNodeIter) -> bool
     ensures { λ r. ⌜ r ≡ denseInside (now (buffer .entry)) block nodes ⌝ }
 {

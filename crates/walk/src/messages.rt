@@ -43,6 +43,7 @@ pub enum LooseStep {
     Refused(Refusal),
 }
 
+// The field of a group that a kind's messages stand in.
 fn field_of(kind: Loose) -> u32
     ensures { λ r. ⌜ r ≡ fieldOf kind ⌝ }
 {
@@ -60,6 +61,7 @@ fn info_in(full: bool, part: Part) -> Part
     if full { part } else { NONE }
 }
 
+// A node's message as an element.
 fn view_node(buffer: &[u8], full: bool, message: Part) -> Viewed
     ensures { λ r. ⌜ viewedOf (now (buffer .entry)) r ≡ each (λ slots. nodeIn full (nodeAt (message .start) slots)) (viewIn node (now (buffer .entry)) (message .start) (message .len)) ⌝ }
 {
@@ -76,6 +78,7 @@ fn view_node(buffer: &[u8], full: bool, message: Part) -> Viewed
     }
 }
 
+// A way's.
 fn view_way(buffer: &[u8], full: bool, message: Part) -> Viewed
     ensures { λ r. ⌜ viewedOf (now (buffer .entry)) r ≡ each (λ slots. wayIn full (wayAt (message .start) slots)) (viewIn way (now (buffer .entry)) (message .start) (message .len)) ⌝ }
 {
@@ -92,6 +95,7 @@ fn view_way(buffer: &[u8], full: bool, message: Part) -> Viewed
     }
 }
 
+// A relation's.
 fn view_relation(buffer: &[u8], full: bool, message: Part) -> Viewed
     ensures { λ r. ⌜ viewedOf (now (buffer .entry)) r ≡ each (λ slots. relationIn full (relationAt (message .start) slots)) (viewIn relation (now (buffer .entry)) (message .start) (message .len)) ⌝ }
 {
@@ -108,6 +112,7 @@ fn view_relation(buffer: &[u8], full: bool, message: Part) -> Viewed
     }
 }
 
+// A message of any kind.
 fn view(buffer: &[u8], full: bool, kind: Loose, message: Part) -> Viewed
     ensures { λ r. ⌜ viewedOf (now (buffer .entry)) r ≡ viewedAs full kind (now (buffer .entry)) message ⌝ }
 {

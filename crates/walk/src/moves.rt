@@ -6,8 +6,7 @@ ghost use Rattle.lookup.specs.Lookup.{isRecordInside};
 ghost use Rattle.columns.specs.InStep.{startOf};
 ghost use Rattle.walk.specs.State.{groupInside, denseInside};
 ghost use Rattle.walk.specs.Walk.{rowsStart, infosStart, groupsFrom};
-ghost use Rattle.walk.specs.Moves.{leftFrom, beforeKind, behindKind, refusedBy, atDense, atInfos, Quietly};
-use crate::block_elements::ElementStep;
+ghost use Rattle.walk.specs.Moves.{leftFrom, beforeKind, behindKind, atDense, atInfos, Enters};
 use crate::state::Between;
 use crate::state::BlockElementsIter;
 use crate::state::DenseColumns;
@@ -33,20 +32,11 @@ use views::dense_nodes::DenseNodesParse;
 use views::dense_nodes::WireDenseNodes;
 use wire::record::WireBlock;
 
-// A move to another state; one to plain dense nodes, which a caller steps over itself; or what a step says.
-pub enum Quiet {
+// The way into a group: a move, the end of the walk where there is no such group, or a refusal.
+pub enum Entered {
     Moved(BlockElementsIter),
-    Dense(DenseNodeIter),
-    Says(ElementStep),
-}
-
-pub(crate) fn refuse(refusal: Refusal) -> Quiet
-    ensures { λ r. ⌜ r ≡ refusedBy refusal ⌝ }
-{
-    Quiet::Says(ElementStep::Refused {
-        refusal,
-        next: BlockElementsIter::Ended,
-    })
+    Ended,
+    Refused(Refusal),
 }
 
 // Before the messages of a kind.
@@ -76,6 +66,7 @@ pub(crate) fn behind_kind(full: bool, of: GroupRangeAt, kind: Loose) -> BlockEle
     }
 }
 
+// The columns of a dense message before its first node.
 fn start_columns(v: WireDenseNodes) -> DenseColumns
     ensures { λ r. ⌜ r ≡ record { rows = rowsStart v; keyvals = startOf (v .keyvals) } ⌝ }
 {
@@ -93,6 +84,7 @@ fn start_columns(v: WireDenseNodes) -> DenseColumns
     }
 }
 
+// The same of its DenseInfo.
 fn start_infos(v: WireDenseInfo) -> InfoColumns
     ensures { λ r. ⌜ r ≡ infosStart v ⌝ }
 {
@@ -113,15 +105,15 @@ fn start_infos(v: WireDenseInfo) -> InfoColumns
 }
 
 // To the dense nodes of a group with metadata.
-fn enter_infos(buffer: &[u8], block: WireBlock, nodes: DenseNodeIter, info: Part) -> Quiet
+fn enter_infos(buffer: &[u8], block: WireBlock, nodes: DenseNodeIter, info: Part) -> Entered
     requires { ⌜ denseInside (now buffer) block nodes ≡ true ⌝ }
-    ensures { λ r. ⌜ Quietly (now (buffer .entry)) block (leftFrom block (nodes .of .group)) (atInfos (now (buffer .entry)) block nodes info) r ⌝ }
+    ensures { λ r. ⌜ Enters (now (buffer .entry)) block (leftFrom block (nodes .of .group)) (atInfos (now (buffer .entry)) block nodes info) r ⌝ }
 {
     let q = WireDenseInfo::parse(buffer, info.start, info.len);
     match q {
-        DenseInfoParse::Refused(n) => refuse(n),
+        DenseInfoParse::Refused(n) => Entered::Refused(n),
         DenseInfoParse::Parsed(v) => {
-            Quiet::Moved(BlockElementsIter::FullDenseNodes(FullDenseNodeIter {
+            Entered::Moved(BlockElementsIter::FullDenseNodes(FullDenseNodeIter {
                 nodes,
                 infos: start_infos(v),
             }))
@@ -136,13 +128,13 @@ fn enter_dense(
     full: bool,
     of: GroupRangeAt,
     message: Part,
-) -> Quiet
+) -> Entered
     requires { ⌜ groupInside (now buffer) block of ≡ true ⌝ }
-    ensures { λ r. ⌜ Quietly (now (buffer .entry)) block (leftFrom block (of .group)) (atDense full (now (buffer .entry)) block of message) r ⌝ }
+    ensures { λ r. ⌜ Enters (now (buffer .entry)) block (leftFrom block (of .group)) (atDense full (now (buffer .entry)) block of message) r ⌝ }
 {
     let p = WireDenseNodes::parse(buffer, message.start, message.len);
     match p {
-        DenseNodesParse::Refused(n) => refuse(n),
+        DenseNodesParse::Refused(n) => Entered::Refused(n),
         DenseNodesParse::Parsed(v) => {
             let info = v.info;
             let nodes = DenseNodeIter {
@@ -153,27 +145,25 @@ fn enter_dense(
             if full {
                 enter_infos(buffer, block, nodes, info)
             } else {
-                Quiet::Dense(nodes)
+                Entered::Moved(BlockElementsIter::DenseNodes(nodes))
             }
         }
     }
 }
 
 // Into a group: its entry, then the dense pass over all its fields.
-pub(crate) fn enter(buffer: &[u8], block: WireBlock, at: Between) -> Quiet
+pub(crate) fn enter(buffer: &[u8], block: WireBlock, at: Between) -> Entered
     requires { ⌜ (isRecordInside (now buffer) block ≡ true) × (at .group ≤ block .groups) ⌝ }
-    ensures { λ r. ⌜ Quietly (now (buffer .entry)) block (leftFrom block (at .group)) (groupsFrom (at .full) (now (buffer .entry)) block (block .groups - at .group) (at .group)) r ⌝ }
+    ensures { λ r. ⌜ Enters (now (buffer .entry)) block (leftFrom block (at .group)) (groupsFrom (at .full) (now (buffer .entry)) block (block .groups - at .group) (at .group)) r ⌝ }
 {
     let full = at.full;
     let number = at.group;
     if block.groups <= number {
-        return Quiet::Says(ElementStep::Ended {
-            next: BlockElementsIter::Ended,
-        });
+        return Entered::Ended;
     }
     let g = group(buffer, block, number);
     match g {
-        GroupRange::Refused(n) => refuse(n),
+        GroupRange::Refused(n) => Entered::Refused(n),
         GroupRange::Range(p) => {
             let of = GroupRangeAt {
                 group: number,
@@ -182,12 +172,12 @@ pub(crate) fn enter(buffer: &[u8], block: WireBlock, at: Between) -> Quiet
             };
             let d = dense(buffer, p.start, p.len);
             match d {
-                DenseFound::Refused(n) => refuse(n),
+                DenseFound::Refused(n) => Entered::Refused(n),
                 DenseFound::Found(message) => {
                     if message.present {
                         enter_dense(buffer, block, full, of, message)
                     } else {
-                        Quiet::Moved(messages_of(full, of, Loose::Nodes))
+                        Entered::Moved(messages_of(full, of, Loose::Nodes))
                     }
                 }
             }

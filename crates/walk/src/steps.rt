@@ -7,14 +7,13 @@ ghost use Rattle.walk.specs.Walk.{elementsBy};
 ghost use Rattle.walk.specs.Said.{denseElement};
 ghost use Rattle.walk.specs.Moves.{left, amongFull, amongMessages, Quietly};
 use crate::block_elements::ElementStep;
+use crate::block_elements::refuse;
 use crate::dense_nodes::FullDenseStep;
 use crate::dense_nodes::next_full_dense;
 use crate::messages::LooseStep;
 use crate::messages::next_loose;
-use crate::moves::Quiet;
 use crate::moves::behind_kind;
 use crate::moves::messages_of;
-use crate::moves::refuse;
 use crate::state::BlockElementsIter;
 use crate::state::FullDenseNodeIter;
 use crate::state::Loose;
@@ -25,6 +24,12 @@ use elements::element::Element;
 use elements::element::NodeInfo;
 use protobuf::column::Column;
 use wire::record::WireBlock;
+
+// A move that hands out nothing, or what a step says.
+pub enum Quiet {
+    Moved(BlockElementsIter),
+    Says(ElementStep),
+}
 
 // A dense node by the columns behind it, whose sums it is, and its pairs.
 pub(crate) fn dense_element(rows: RowColumns, tags: Column, info: NodeInfo) -> Element
@@ -55,7 +60,7 @@ pub(crate) fn walk_full_dense(buffer: &[u8], block: WireBlock, d: FullDenseNodeI
     let tags = columns.keyvals;
     let r = next_full_dense(buffer, columns, infos);
     match r {
-        FullDenseStep::Refused(n) => refuse(n),
+        FullDenseStep::Refused(n) => Quiet::Says(refuse(n)),
         FullDenseStep::Ended => Quiet::Moved(messages_of(true, of, Loose::Nodes)),
         FullDenseStep::Node {
             info,
@@ -89,7 +94,7 @@ pub(crate) fn walk_messages(buffer: &[u8], block: WireBlock, m: Messages) -> Qui
     let kind = m.kind;
     let r = next_loose(buffer, m);
     match r {
-        LooseStep::Refused(n) => refuse(n),
+        LooseStep::Refused(n) => Quiet::Says(refuse(n)),
         LooseStep::Ended => Quiet::Moved(behind_kind(full, of, kind)),
         LooseStep::Found {
             message,

@@ -39,7 +39,7 @@ use Rattle.walk.specs.declared.state.GroupRangeAt.{GroupRangeAt}
 use Rattle.walk.specs.declared.state.DenseColumns.{DenseColumns}
 use Rattle.walk.specs.declared.state.DenseNodeIter.{DenseNodeIter}
 use Rattle.walk.specs.declared.state.BlockElementsIter.{BlockElementsIter}
-use Rattle.walk.specs.declared.moves.Quiet.{Quiet}
+use Rattle.walk.specs.declared.steps.Quiet.{Quiet}
 use Rattle.walk.specs.State.{groupInside, denseInside}
 use Rattle.walk.specs.Walk.{Found, _then_, behind, messagesOf, fromNodes, fromDense, rowsStart, infosStart, enterDense, enterFound, enterRange, groupsFrom, groupsBehind}
 use Rattle.walk.specs.Said.{columnsInside}
@@ -47,7 +47,7 @@ use Rattle.walk.specs.Moves.{leftFrom, beforeKind, atDense, atInfos, Qui
 use Rattle.walk.specs.declared.state.Loose.the-variants as kind
 use Rattle.walk.specs.declared.state.BlockElementsIter.the-variants as walk
 use Rattle.walk.specs.declared.block_elements.ElementStep.the-variants as step
-use Rattle.walk.specs.declared.moves.Quiet.the-variants as quiet
+use Rattle.walk.specs.declared.steps.Quiet.the-variants as quiet
 use Rattle.walk.specs.declared.dense_nodes.FullDenseStep.the-variants as full
 use Rattle.walk.proofs.laws.Inside.{group-below, dense-group}
 use Rattle.walk.proofs.laws.Ahead.{behind-refused, behind-kept}
@@ -131,14 +131,14 @@ module _ (s : List ℕ) (r : WireBlock) (small : length s < 2 ^ 64) where
         (ap (columnsInside s) is ∙ dense-started s small (message .start) (message .len) e))
 
     module _ {full : Bool} where
-      pub enters-dense : full ≡ false → Quietly s r (leftFrom r (of .group)) (atDense full s r of message) (quiet.Dense (with columns))
+      pub enters-dense : full ≡ false → Quietly s r (leftFrom r (of .group)) (atDense full s r of message) (quiet.Moved (walk.DenseNodes (with columns)))
       enters-dense plain =
           record {
             says =
                 ap (λ (c : DenseColumns). fromDense s (with c) then groupsBehind false s r of) is
                 ∙ sym (behind-kept (enterDense false s of message) (groupsBehind false s r of) e)
                 ∙ ap (λ (b : Bool). atDense b s r of message) (sym plain);
-            on = also-true nodes-inside (le-leb (leftFrom r (of .group) - 1) (leftFrom r (of .group)) (omega arith));
+            on = also-true nodes-inside (near r (of .group) 1 (group-below s r of inside) (omega arith));
             behind = refl;
           }
 

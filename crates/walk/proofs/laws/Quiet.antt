@@ -17,16 +17,16 @@ use Rattle.elements.specs.declared.element.Element.{Element}
 use Rattle.elements.specs.Element.{Item, itemOf}
 use Rattle.walk.specs.declared.state.GroupRangeAt.{GroupRangeAt}
 use Rattle.walk.specs.declared.state.BlockElementsIter.{BlockElementsIter}
-use Rattle.walk.specs.declared.moves.Quiet.{Quiet}
 use Rattle.walk.specs.State.{groupInside, stateInside}
 use Rattle.walk.specs.Walk.{Found, behind, elementsBy, elementsFrom, testedFrom, elementSaid}
-use Rattle.walk.specs.Moves.{leftFrom, beforeKind, refusedBy, Quietly, phase, left, behindKind}
+use Rattle.walk.specs.Moves.{leftFrom, beforeKind, refusedStep, Quietly, phase, left, behindKind}
 use Rattle.walk.specs.declared.state.Loose.{Loose}
 use Rattle.walk.specs.declared.state.Messages.{Messages}
 use Rattle.walk.specs.declared.state.Loose.the-variants as kind
 use Rattle.walk.specs.declared.state.BlockElementsIter.the-variants as walk
+use Rattle.walk.specs.declared.block_elements.ElementStep.{ElementStep}
 use Rattle.walk.specs.declared.block_elements.ElementStep.the-variants as step
-use Rattle.walk.specs.declared.moves.Quiet.the-variants as quiet
+use Rattle.walk.specs.declared.steps.Quiet.the-variants as quiet
 use Rattle.walk.specs.declared.dense_nodes.FullDenseStep.the-variants as full
 use Rattle.walk.proofs.laws.Inside.{group-below}
 
@@ -76,5 +76,9 @@ module _ (s : List ℕ) (r : WireBlock) where
   pub quiet-moved : {n : ℕ} {c : Column Found} {w : BlockElementsIter} (to : BlockElementsIter) → w ≡ to → stateInside s r to ≡ true → left r to < n → c ≡ elementsBy s r to → Quietly s r n c (quiet.Moved w)
   quiet-moved {n} {c} to is g k e = subst (λ (x : BlockElementsIter). Quietly s r n c (quiet.Moved x)) (sym is) (record { says = sym e; on = also-true g (lt-ltb _ _ k); behind = refl })
 
-pub quiet-refused : {s : List ℕ} {r : WireBlock} {m : ℕ} {c : Column Found} {q : Quiet} (n : Refusal) → q ≡ refusedBy n → c ≡ end (cut n) → Quietly s r m c q
-quiet-refused {s} {r} {m} {c} n e g = subst (Quietly s r m c) (sym e) (record { says = sym g; on = refl; behind = refl })
+-- a refusal
+pub refuses : {s : List ℕ} {r : WireBlock} {m : ℕ} {c : Column Found} (n : Refusal) → c ≡ end (cut n) → Quietly s r m c (quiet.Says (refusedStep n))
+refuses n g = record { says = sym g; on = refl; behind = refl }
+
+pub quiet-refused : {s : List ℕ} {r : WireBlock} {m : ℕ} {c : Column Found} {e : ElementStep} (n : Refusal) → e ≡ refusedStep n → c ≡ end (cut n) → Quietly s r m c (quiet.Says e)
+quiet-refused {s} {r} {m} {c} n e g = subst (λ (x : ElementStep). Quietly s r m c (quiet.Says x)) (sym e) (refuses n g)

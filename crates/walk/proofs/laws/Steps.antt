@@ -22,19 +22,20 @@ use Rattle.elements.specs.declared.element.NodeInfo.{NodeInfo}
 use Rattle.walk.specs.declared.state.DenseColumns.{DenseColumns}
 use Rattle.walk.specs.declared.state.DenseNodeIter.{DenseNodeIter}
 use Rattle.walk.specs.declared.state.BlockElementsIter.{BlockElementsIter}
-use Rattle.walk.specs.declared.moves.Quiet.{Quiet}
+use Rattle.walk.specs.declared.steps.Quiet.{Quiet}
 use Rattle.walk.specs.State.{groupInside, denseInside, stateInside}
 use Rattle.walk.specs.Walk.{Found, elementsBy}
 use Rattle.walk.specs.Said.{columnsInside, atPlace, looseSaid, fullDenseSaid, fullStepInside, denseElement}
-use Rattle.walk.specs.Moves.{beforeKind, refusedBy, Quietly, left, behindKind}
+use Rattle.walk.specs.Moves.{beforeKind, refusedStep, Quietly, left, behindKind}
 use Rattle.walk.specs.declared.state.FullDenseNodeIter.{FullDenseNodeIter}
 use Rattle.walk.specs.Dense.{fullDenseAhead}
 use Rattle.walk.specs.declared.state.Messages.{Messages}
 use Rattle.walk.specs.Loose.{looseAhead}
 use Rattle.walk.specs.declared.state.Loose.the-variants as kind
 use Rattle.walk.specs.declared.state.BlockElementsIter.the-variants as walk
+use Rattle.walk.specs.declared.block_elements.ElementStep.{ElementStep}
 use Rattle.walk.specs.declared.block_elements.ElementStep.the-variants as step
-use Rattle.walk.specs.declared.moves.Quiet.the-variants as quiet
+use Rattle.walk.specs.declared.steps.Quiet.the-variants as quiet
 use Rattle.walk.specs.declared.dense_nodes.FullDenseStep.the-variants as full
 use Rattle.walk.specs.declared.messages.LooseStep.the-variants as loose
 use Rattle.walk.proofs.laws.Inside.{both-hold, group-below, nodes-before, dense-group, dense-keyvals, dense-next}
@@ -53,7 +54,7 @@ module _ (s : List ℕ) (r : WireBlock) (tables : isRecordInside s r ≡ true) w
     pub full-columns : (columnInside s (nodes .columns .keyvals) ≡ true) × (infosInside s (d .infos) ≡ true)
     full-columns = (dense-keyvals s r nodes nodes-in, both-hold (denseInside s r nodes) _ inside .1)
 
-    pub full-refuses : {q : Quiet} {n : Refusal} → q ≡ refusedBy n → fullDenseAhead s (nodes .columns) (d .infos) ≡ end (cut n) → Quietly s r (left r (walk.FullDenseNodes d)) (elementsBy s r (walk.FullDenseNodes d)) q
+    pub full-refuses : {e : ElementStep} {n : Refusal} → e ≡ refusedStep n → fullDenseAhead s (nodes .columns) (d .infos) ≡ end (cut n) → Quietly s r (left r (walk.FullDenseNodes d)) (elementsBy s r (walk.FullDenseNodes d)) (quiet.Says e)
     full-refuses {n = n} is e = quiet-refused n is (group-cut _ _ _ e)
 
     pub full-moves : {w : BlockElementsIter} → w ≡ beforeKind true (nodes .of) kind.Nodes → fullDenseAhead s (nodes .columns) (d .infos) ≡ end ended → Quietly s r (left r (walk.FullDenseNodes d)) (elementsBy s r (walk.FullDenseNodes d)) (quiet.Moved w)
@@ -81,7 +82,7 @@ module _ (s : List ℕ) (r : WireBlock) (tables : isRecordInside s r ≡ true) w
     abbrev Moves : Quiet → Type 0
     Moves q = Quietly s r (left r (walk.Messages m)) (elementsBy s r (walk.Messages m)) q
 
-    pub messages-refuse : {q : Quiet} {n : Refusal} → q ≡ refusedBy n → looseAhead s m ≡ end (cut n) → Moves q
+    pub messages-refuse : {e : ElementStep} {n : Refusal} → e ≡ refusedStep n → looseAhead s m ≡ end (cut n) → Moves (quiet.Says e)
     messages-refuse {n = n} is e = quiet-refused n is (kind-cut s r m (m .kind) e)
 
     pub messages-move : {w : BlockElementsIter} → w ≡ behindKind (m .full) (m .of) (m .kind) → looseAhead s m ≡ end ended → Moves (quiet.Moved w)

@@ -20,7 +20,7 @@ use Rattle.elements.specs.declared.element.NodeInfo.the-variants as node
 use Rattle.walk.specs.declared.state.DenseColumns.{DenseColumns}
 use Rattle.walk.specs.declared.state.DenseNodeIter.{DenseNodeIter}
 use Rattle.walk.specs.declared.state.BlockElementsIter.{BlockElementsIter}
-use Rattle.walk.specs.declared.moves.Quiet.{Quiet}
+use Rattle.walk.specs.declared.steps.Quiet.{Quiet}
 use Rattle.walk.specs.State.{denseInside, stateInside}
 use Rattle.walk.specs.Walk.{behind, elementsBy, elementsFrom, testedFrom, elementSaid, elementBehind}
 use Rattle.walk.specs.Said.{columnsInside, denseElement, denseSaidBy}
@@ -32,25 +32,13 @@ use Rattle.walk.specs.declared.block_elements.ElementStep.{ElementStep}
 use Rattle.walk.specs.declared.state.Loose.the-variants as kind
 use Rattle.walk.specs.declared.state.BlockElementsIter.the-variants as walk
 use Rattle.walk.specs.declared.block_elements.ElementStep.the-variants as step
-use Rattle.walk.specs.declared.moves.Quiet.the-variants as quiet
+use Rattle.walk.specs.declared.steps.Quiet.the-variants as quiet
 use Rattle.walk.specs.declared.dense_nodes.DenseStep.the-variants as dense
 use Rattle.walk.specs.declared.settle.Settled.the-variants as settled
 use Rattle.walk.proofs.state.BlockElementsIter.{the-type}
 use Rattle.walk.proofs.laws.Inside.{both-hold, nodes-before, dense-group, dense-next}
 use Rattle.walk.proofs.laws.Ahead.{group-cut, group-ended, group-more}
 use Rattle.walk.proofs.laws.Quiet.{said-one, near, nodes-near}
-
--- ---- moves by the state
-
-module _ (s : List ℕ) (r : WireBlock) where
-  pub by-state : {w known : BlockElementsIter} {q : Quiet} → w ≡ known → Quietly s r (left r known) (elementsBy s r known) q → Quietly s r (left r w) (elementsBy s r w) q
-  by-state {q = q} e k = subst (λ (x : BlockElementsIter). Quietly s r (left r x) (elementsBy s r x) q) (sym e) k
-
-  pub quiet-over : Quietly s r (left r walk.Ended) (elementsBy s r walk.Ended) (quiet.Says (step.Ended walk.Ended))
-  quiet-over = record { says = refl; on = refl; behind = refl }
-
-  pub stays-dense : (d : DenseNodeIter) → denseInside s r d ≡ true → Quietly s r (left r (walk.DenseNodes d)) (elementsBy s r (walk.DenseNodes d)) (quiet.Dense d)
-  stays-dense d h = record { says = refl; on = also-true h (le-leb (left r (walk.DenseNodes d)) (left r (walk.DenseNodes d)) (omega arith)); behind = refl }
 
 -- ---- moves in a row
 
@@ -64,9 +52,19 @@ module _ {s : List ℕ} {r : WireBlock} where
   pub walk-begins : {from : BlockElementsIter} → stateInside s r from ≡ true → Walking s r from from
   walk-begins h = record { so = refl; inside = h; near = omega arith }
 
+  -- the same by what the state is known to be
+  pub walking-at : {from here known : BlockElementsIter} → Walking s r from here → here ≡ known → Walking s r from known
+  walking-at {from} w e = subst (Walking s r from) e w
+
+  pub settles-as : {from : BlockElementsIter} {q known : Settled} → q ≡ known → Settles s r from known → Settles s r from q
+  settles-as {from} e k = subst (Settles s r from) (sym e) k
+
+  pub settles-over : {from here : BlockElementsIter} → Walking s r from here → here ≡ walk.Ended → Settles s r from (settled.Says (step.Ended walk.Ended))
+  settles-over w e = record { says = sym (walking-at w e .so); on = refl; behind = refl }
+
   pub settles-here : {from here : BlockElementsIter} {d : DenseNodeIter} → Walking s r from here → here ≡ walk.DenseNodes d → Settles s r from (settled.Dense d)
   settles-here {from} {here} {d} w e =
-      let x = subst (Walking s r from) e w in
+      let x = walking-at w e in
       record { says = sym (x .so); on = also-true (x .inside) (le-leb (left r (walk.DenseNodes d)) (left r from) (x .near)); behind = refl }
 
   module _ {from here : BlockElementsIter} (w : Walking s r from here) {q : Quiet} (k : Quietly s r (left r here) (elementsBy s r here) q) where
@@ -76,20 +74,18 @@ module _ {s : List ℕ} {r : WireBlock} where
     pub settles-says : {e : ElementStep} → q ≡ quiet.Says e → Settles s r from (settled.Says e)
     settles-says g = let x = known g in record { says = x .says ∙ sym (w .so); on = refl; behind = x .behind }
 
-    pub settles-dense : {d : DenseNodeIter} → q ≡ quiet.Dense d → Settles s r from (settled.Dense d)
-    settles-dense {d} g =
-        let x = known g in
-        let h = both-hold (denseInside s r d) _ (x .on) in
-        let nearer : left r (walk.DenseNodes d) ≤ left r from = omega (arith, leb-true (left r (walk.DenseNodes d)) (left r here) (h .1), w .near) in
-        record { says = x .says ∙ sym (w .so); on = also-true (h .0) (le-leb _ _ nearer); behind = refl }
-
-    pub moves-nearer : {to : BlockElementsIter} → q ≡ quiet.Moved to → left r to < left r here
-    moves-nearer {to} g = let x = known g in ltb-true _ _ (both-hold (stateInside s r to) _ (x .on) .1)
+    nearer : {to : BlockElementsIter} → q ≡ quiet.Moved to → left r to < left r here
+    nearer {to} g = let x = known g in ltb-true _ _ (both-hold (stateInside s r to) _ (x .on) .1)
 
     pub walks-on : {to : BlockElementsIter} → q ≡ quiet.Moved to → Walking s r from to
     walks-on {to} g =
         let x = known g in
-        record { so = w .so ∙ sym (x .says); inside = both-hold (stateInside s r to) _ (x .on) .0; near = omega (arith, moves-nearer g, w .near) }
+        record { so = w .so ∙ sym (x .says); inside = both-hold (stateInside s r to) _ (x .on) .0; near = omega (arith, nearer g, w .near) }
+
+  pub moves-nearer : {here known to : BlockElementsIter} {q : Quiet} → here ≡ known → Quietly s r (left r known) (elementsBy s r known) q → q ≡ quiet.Moved to → left r to < left r here
+  moves-nearer {here} {known} {to} e k g =
+      let x = subst (Quietly s r (left r known) (elementsBy s r known)) g k in
+      subst (λ (w : BlockElementsIter). left r to < left r w) (sym e) (ltb-true _ _ (both-hold (stateInside s r to) _ (x .on) .1))
 
 -- ---- a step, once the walk has settled
 

@@ -1,11 +1,12 @@
 -- `advance` settles, makes the dense step there, and goes on where the dense nodes have ended.
 use borrow.Author.Needs.{needs}
 use native.Mathlib.Omega.{arith}
-use mathlib.Core.Path.{refl, sym, ap, _∙_}
+use mathlib.Core.Path.{sym, ap, _∙_}
 use denote.Ref.{now}
 use Rattle.protobuf.proofs.laws.Read.{says}
 use Rattle.walk.specs.declared.state.BlockElementsIter.the-variants as walk
 use Rattle.walk.specs.Dense.{denseSaid}
+use Rattle.walk.specs.Walk.{elementSaid, elementBehind}
 use Rattle.walk.specs.Said.{denseStepInside}
 use Rattle.walk.specs.Moves.{left}
 use Rattle.walk.proofs.laws.Walking.{Walking, walk-begins, settled-says, settled-near, settled-dense, dense-refuses, dense-says, dense-nearer, dense-on}
@@ -64,9 +65,10 @@ loop-again c =
 
 returns-3 : tie.Need-returns-3 Inv-loop μ-loop
 returns-3 c =
-    let n = c .before .before .before in
+    let t = c .before in
+    let n = t .before .before .before in
     let k = n .before .before .before in
-    (dense-refuses (settled k) (says (denseSaid _ _) (n .next-dense .ensures .0) (c .before .d2 .given .1)), refl)
+    (ap (elementSaid _ _) (c .refuse .ensures) ∙ dense-refuses (settled k) (says (denseSaid _ _) (n .next-dense .ensures .0) (t .before .d2 .given .1)), ap elementBehind (c .refuse .ensures))
 
 pub advance-spec : {M : Type 1} → statement M
 advance-spec =
@@ -88,4 +90,5 @@ advance-spec =
     loop-less
     loop-again
     (λ c. search needs)
+    (λ c κs. search needs)
     returns-3)

@@ -4,7 +4,7 @@ use mathlib.Core.Path.{sym, _∙_}
 use denote.Ref.{now}
 use Rattle.protobuf.proofs.laws.Read.{says}
 use Rattle.groups.specs.Group.{foundDense}
-use Rattle.walk.proofs.laws.Quiet.{quiet-refused}
+use Rattle.walk.proofs.laws.Quiet.{refuses}
 use Rattle.walk.proofs.laws.Enter.{quiet-ended, no-range, range-stands, no-pass, with-dense, without-dense}
 use Rattle.walk.proofs.moves.enter.Statement.{statement}
 use Rattle.walk.proofs.moves.enter.Tie as tie
@@ -14,19 +14,17 @@ returns c = let a = c .before .before .before .args in quiet-ended (a .buffer .n
 
 returns-2 : tie.Need-returns-2
 returns-2 c =
-    let k = c .before in
-    let g = k .before .before .before in
+    let g = c .before .before .before in
     let a = g .before .before .before .before .args in
-    quiet-refused _ (c .refuse .ensures) (no-range (a .buffer .now) (a .block) (a .at .full) (a .at .group) (g .before .if1 .left) (sym (g .group .ensures .0) ∙ k .before .g .given .1))
+    refuses _ (no-range (a .buffer .now) (a .block) (a .at .full) (a .at .group) (g .before .if1 .left) (sym (g .group .ensures .0) ∙ c .before .g .given .1))
 
 returns-3 : tie.Need-returns-3
 returns-3 c =
-    let k = c .before in
-    let d = k .before .before .before in
+    let d = c .before .before .before in
     let g = d .before .before .before .before in
     let a = g .before .before .before .before .args in
-    quiet-refused _ (c .refuse2 .ensures)
-    (no-pass (a .buffer .now) (a .block) (a .at .full) (a .at .group) (g .before .if1 .left) (sym (g .group .ensures .0) ∙ d .before .before .g2 .given .1) (says foundDense (d .dense .ensures) (k .before .d .given .1)))
+    refuses _
+    (no-pass (a .buffer .now) (a .block) (a .at .full) (a .at .group) (g .before .if1 .left) (sym (g .group .ensures .0) ∙ d .before .before .g2 .given .1) (says foundDense (d .dense .ensures) (c .before .d .given .1)))
 
 enter-dense-requires : tie.Need-enter-dense-requires
 enter-dense-requires c κs =
@@ -61,11 +59,9 @@ enter-spec =
     returns
     (λ c κs. search needs)
     (λ c. search needs)
-    (λ c κs. search needs)
     (λ c. search needs)
     (λ c κs. search needs)
     (λ c. search needs)
-    (λ c κs. search needs)
     (λ c. search needs)
     enter-dense-requires
     (λ c κs. search needs)

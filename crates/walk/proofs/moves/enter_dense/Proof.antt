@@ -3,7 +3,7 @@ use borrow.Author.Needs.{needs}
 use Rattle.protobuf.proofs.laws.Read.{says}
 use Rattle.views.specs.DenseNodes.{parsedDenseNodes}
 use Rattle.walk.proofs.laws.Ahead.{behind-refused}
-use Rattle.walk.proofs.laws.Quiet.{quiet-refused}
+use Rattle.walk.proofs.laws.Quiet.{refuses}
 use Rattle.walk.proofs.laws.Enter.{nodes-inside, enters-dense, enters-full}
 use Rattle.walk.proofs.moves.enter_dense.Statement.{statement}
 use Rattle.walk.proofs.moves.enter_dense.Tie as tie
@@ -18,8 +18,7 @@ enter-infos-requires c κs =
 
 returns : tie.Need-returns
 returns c =
-    let k = c .before in
-    quiet-refused _ (c .refuse .ensures) (behind-refused _ _ (says parsedDenseNodes (k .before .before .before .parse .ensures) (k .before .p .given .1)))
+    refuses _ (behind-refused _ _ (says parsedDenseNodes (c .before .before .before .parse .ensures) (c .before .p .given .1)))
 
 returns-2 : tie.Need-returns-2
 returns-2 c =
@@ -44,7 +43,6 @@ enter-dense-spec =
     (tie.spec
     (λ c κs. search needs)
     (λ c. search needs)
-    (λ c κs. search needs)
     (λ c. search needs)
     (λ c κs. search needs)
     enter-infos-requires

@@ -3,15 +3,14 @@ use borrow.Author.Needs.{needs}
 use Rattle.protobuf.proofs.laws.Read.{says}
 use Rattle.views.specs.DenseInfo.{parsedDenseInfo}
 use Rattle.walk.proofs.laws.Ahead.{behind-refused}
-use Rattle.walk.proofs.laws.Quiet.{quiet-refused}
+use Rattle.walk.proofs.laws.Quiet.{refuses}
 use Rattle.walk.proofs.laws.Enter.{enters-infos}
 use Rattle.walk.proofs.moves.enter_infos.Statement.{statement}
 use Rattle.walk.proofs.moves.enter_infos.Tie as tie
 
 returns : tie.Need-returns
 returns c =
-    let k = c .before in
-    quiet-refused _ (c .refuse .ensures) (behind-refused _ _ (says parsedDenseInfo (k .before .before .before .parse .ensures) (k .before .q .given .1)))
+    refuses _ (behind-refused _ _ (says parsedDenseInfo (c .before .before .before .parse .ensures) (c .before .q .given .1)))
 
 returns-2 : tie.Need-returns-2
 returns-2 c =
@@ -27,7 +26,6 @@ enter-infos-spec =
     (tie.spec
     (λ c κs. search needs)
     (λ c. search needs)
-    (λ c κs. search needs)
     (λ c. search needs)
     (λ c κs. search needs)
     returns

@@ -1,15 +1,16 @@
 -- `step` says ended of an ended walk, whatever the buffer is, and else tests and advances.
 use borrow.Author.Needs.{needs}
-use mathlib.Core.Path.{refl, sym, ap, _∙_}
-use Rattle.walk.specs.Walk.{elementsFrom}
+use mathlib.Core.Path.{sym, ap, _∙_}
+use Rattle.walk.specs.Walk.{elementsFrom, elementSaid, elementBehind}
 use Rattle.walk.proofs.laws.Walking.{not-ended}
 use Rattle.walk.proofs.state.BlockElementsIter.step.Statement.{statement}
 use Rattle.walk.proofs.state.BlockElementsIter.step.Tie as tie
 
 returns : tie.Need-returns
 returns c =
-    let a = c .before .before .before .args in
-    (ap (elementsFrom (a .buffer .now) (a .block)) (sym (c .enum-told .given .1)), refl)
+    let t = c .before in
+    let a = t .before .before .before .args in
+    (ap (elementSaid _ _) (c .end .ensures) ∙ ap (elementsFrom (a .buffer .now) (a .block)) (sym (t .enum-told .given .1)), ap elementBehind (c .end .ensures))
 
 returns-2 : tie.Need-returns-2
 returns-2 c =
@@ -21,6 +22,7 @@ step-spec =
     tie.close
     (tie.spec
     (λ c. search needs)
+    (λ c κs. search needs)
     (λ c κs. search needs)
     returns
     returns-2)
