@@ -4,4 +4,3 @@ pub mod Inside
 pub mod KeysVals
 pub mod Zip
 pub mod Count
-pub mod Even

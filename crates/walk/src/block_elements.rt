@@ -3,7 +3,8 @@ ghost use mathlib.Core.Path.{_≡_};
 ghost use mathlib.Core.Bool.{true, false};
 ghost use Rattle.lookup.specs.Lookup.{isRecordInside};
 ghost use Rattle.walk.specs.State.{stateInside};
-ghost use Rattle.walk.specs.Walk.{fresh, elementsBy, elementsFrom, testedFrom, elementSaid, elementBehind};
+ghost use Rattle.walk.specs.Walk.{fresh, elementsBy, testedFrom, elementSaid, elementBehind};
+ghost use Rattle.walk.specs.Whole.{StepPost, NextPost};
 ghost use Rattle.walk.specs.Said.{denseSaidBy};
 ghost use Rattle.walk.specs.Moves.{endedWalk, endedStep, refusedStep};
 use crate::dense_nodes::DenseStep;
@@ -144,8 +145,7 @@ impl BlockElementsIter {
     // The next element with the state behind it, that the walk has ended, or a refusal: 14 where record or state is outside the buffer, before
     // anything is read. Behind the last two the state is the ended one, and a step on it says ended whatever the buffer is.
     pub(crate) fn step(self, buffer: &[u8], block: WireBlock) -> ElementStep
-        ensures says { λ r. ⌜ elementSaid (now (buffer .entry)) block r ≡ elementsFrom (now (buffer .entry)) block self ⌝ }
-        ensures behind { λ r. ⌜ elementBehind r ≡ endedWalk ⌝ }
+        ensures { λ r. ⌜ StepPost (now (buffer .entry)) block self r ⌝ }
     {
         match self {
             BlockElementsIter::Ended => end(),
@@ -155,8 +155,7 @@ impl BlockElementsIter {
 
     // The same: here a step is never quiet.
     pub(crate) fn next(self, buffer: &[u8], block: WireBlock) -> ElementStep
-        ensures says { λ r. ⌜ elementSaid (now (buffer .entry)) block r ≡ elementsFrom (now (buffer .entry)) block self ⌝ }
-        ensures behind { λ r. ⌜ elementBehind r ≡ endedWalk ⌝ }
+        ensures { λ r. ⌜ NextPost (now (buffer .entry)) block self r ⌝ }
     {
         self.step(buffer, block)
     }

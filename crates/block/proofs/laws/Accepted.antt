@@ -39,7 +39,7 @@ use Rattle.block.proofs.laws.Equal.{EvenGroup, even-equal}
 
 -- ---- outcomes that were kept
 
-all-passed : {A : Type 0} (check : A → Outcome Unit) (xs : List A) → all check xs ≡ passed → Each (λ (a : A). check a ≡ passed) xs
+pub all-passed : {A : Type 0} (check : A → Outcome Unit) (xs : List A) → all check xs ≡ passed → Each (λ (a : A). check a ≡ passed) xs
 unfolding all
 all-passed check [] p = no-more
 all-passed check (x ∷ xs) p =
@@ -65,7 +65,7 @@ count-values : {A : Type 0} (f : ℕ → A) (c : Column ℕ) {n : ℕ} → count
 count-values f c p = mapped-length f c ∙ plain-values c p
 
 -- counts that agree are equal
-agree-both : (a b : Outcome ℕ) {n : ℕ} → agreed a b ≡ kept n → (a ≡ kept n) × (b ≡ kept n)
+pub agree-both : (a b : Outcome ℕ) {n : ℕ} → agreed a b ≡ kept n → (a ≡ kept n) × (b ≡ kept n)
 unfolding agreed
 agree-both a b p =
     let wa = went a _ p in

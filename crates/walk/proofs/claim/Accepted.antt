@@ -16,17 +16,10 @@ use Rattle.block.specs.Tags.{Pair, densePairs}
 use Rattle.block.specs.Check.{passed, all, sameCounts, sameThree, readWhole, checkInfo, checkCommon, elementBy, checkRows, checkDense}
 use Rattle.block.specs.Stored.{keptOr, slotsOf}
 use Rattle.block.specs.Metadata.{infosOf}
+use Rattle.block.proofs.laws.Accepted.{all-passed}
 use Rattle.block.proofs.laws.Lists.{Each, no-more, and-also}
 use Rattle.walk.proofs.claim.Whole.{Whole, Ends, Three, whole-mapped, whole-sums, read-whole, whole-two, whole-three}
 use Rattle.walk.proofs.claim.Infos.{AllEnd}
-
--- where all pass, each does
-pub all-passed : {A : Type 0} (check : A → Outcome Unit) (xs : List A) → all check xs ≡ passed → Each (λ (a : A). check a ≡ passed) xs
-unfolding all
-all-passed check [] e = no-more
-all-passed check (x ∷ xs) e =
-    let first = went (check x) (λ u. all check xs) e in
-    and-also (first .is) (all-passed check xs (first .on))
 
 -- a view that was kept has the slots that the listing reads
 pub slots-kept : (schema : Schema) (t : List ℕ) {slots : Slots} → view schema t ≡ kept slots → slots ≡ slotsOf schema t

@@ -22,12 +22,12 @@ use Rattle.lookup.proofs.laws.Scanned.{same-length, same-bytes, block-inside, r
 use Rattle.block.specs.Strings.{Text}
 use Rattle.block.specs.Check.{passed, checkGroup, checked}
 use Rattle.block.proofs.laws.Lists.{Each, no-more, and-also}
+use Rattle.block.proofs.laws.Accepted.{all-passed}
 use Rattle.walk.specs.Walk.{Found, _then_, enterRange, groupsFrom, testedFrom, elementsFrom, fresh}
 use Rattle.walk.specs.Shows.{Streams, all-out}
 use Rattle.walk.proofs.claim.Streams.{streams-then}
 use Rattle.walk.proofs.claim.Place.{each-part}
 use Rattle.walk.proofs.claim.Texts.{Left, left}
-use Rattle.walk.proofs.claim.Accepted.{all-passed}
 use Rattle.walk.proofs.claim.Group.{Made, Showing, groupMade, group-shown}
 
 -- the groups' lists, numbered on

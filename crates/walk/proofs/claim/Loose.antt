@@ -27,6 +27,7 @@ use Rattle.elements.specs.Tags.{tagsFrom, keysAndVals}
 use Rattle.views.specs.Node.{nodeAt}
 use Rattle.views.specs.Way.{wayAt}
 use Rattle.views.specs.Relation.{relationAt}
+use Rattle.block.proofs.laws.Accepted.{all-passed}
 use Rattle.walk.specs.declared.state.Loose.{Loose}
 use Rattle.walk.specs.declared.state.Loose.the-variants as kind
 use Rattle.walk.specs.Loose.{fieldOf, nodeIn, wayIn, relationIn, viewedAs, Placed, itemThen, viewedAll}
@@ -38,7 +39,7 @@ use Rattle.walk.proofs.claim.Place.{Stands, own-view, stands-part, part
 use Rattle.walk.proofs.claim.Texts.{Left}
 use Rattle.walk.proofs.claim.Tags.{loose-tags}
 use Rattle.walk.proofs.claim.Members.{members-shown}
-use Rattle.walk.proofs.claim.Accepted.{Accepted, accepted, all-passed}
+use Rattle.walk.proofs.claim.Accepted.{Accepted, accepted}
 
 -- ---- by kind
 

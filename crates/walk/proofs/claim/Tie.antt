@@ -3,7 +3,7 @@
 -- that promises less breaks a law here, while the claim's own words stay as they are.
 use Prim.Native.Nat.{ℕ}
 use mathlib.Core.Path.{_≡_, refl, sym, ap, _∙_, subst}
-use mathlib.Core.List.{List}
+use mathlib.Core.List.{List, _∷_}
 use mathlib.Core.Bool.{false}
 use lib.ListN.{take}
 use contract.Lifetimes.{Lfts}
@@ -54,7 +54,12 @@ use Rattle.elements.proofs.members.role_text as role
 use Rattle.elements.proofs.members.role_text.Kinds as role-kinds
 use Rattle.elements.proofs.members.role_text.Reads as role-reads
 use Rattle.walk.specs.Walk.{fresh}
-use Rattle.walk.specs.Whole.{Accepted, CallPost, by-step, by-next, TagPost, RefPost, MemberPost}
+use Rattle.elements.specs.declared.tags.TagIterStep.{TagIterStep}
+use Rattle.elements.specs.declared.references.WayRefStep.{WayRefStep}
+use Rattle.elements.specs.declared.members.RelMemberStep.{RelMemberStep}
+use Rattle.walk.specs.declared.block_elements.ElementStep.{ElementStep}
+use Rattle.walk.specs.Run.{Run, asks}
+use Rattle.walk.specs.Whole.{Accepted, CallPost, by-step, by-next, afterStep, TagPost, afterTag, RefPost, afterRef, MemberPost, afterMember}
 use Rattle.walk.proofs.state.BlockElementsIter.new_skip_metadata as start
 use Rattle.walk.proofs.state.BlockElementsIter.new_skip_metadata.Kinds as start-kinds
 use Rattle.walk.proofs.state.BlockElementsIter.new_skip_metadata.Reads as start-reads
@@ -108,11 +113,18 @@ module _ (κs : Lfts 0) (a : ArgsD start.signature κs) (z : ResD start.signatur
 
 module _ (κs : Lfts 1) (a : ArgsD step.signature κs) (z : ResD step.signature κs) (e : AtExit (endedOf 1 step-kinds.ps step-kinds.r) κs) where
   pub steps : step-reads.Learnt κs a z e → CallPost (now (a .1 .0)) (a .1 .1 .0) (a .0) z
-  steps told = by-step (record { says = told .0; behind = told .1 })
+  steps told = by-step told
+
+  -- so a call makes any run from the state that it hands back longer by one
+  pub step-first : step-reads.Learnt κs a z e → {answers : List ElementStep} → Run (CallPost (now (a .1 .0)) (a .1 .1 .0)) afterStep (afterStep z) answers → Run (CallPost (now (a .1 .0)) (a .1 .1 .0)) afterStep (a .0) (z ∷ answers)
+  step-first told run = asks (steps told) run
 
 module _ (κs : Lfts 1) (a : ArgsD next.signature κs) (z : ResD next.signature κs) (e : AtExit (endedOf 1 next-kinds.ps next-kinds.r) κs) where
   pub nexts : next-reads.Learnt κs a z e → CallPost (now (a .1 .0)) (a .1 .1 .0) (a .0) z
-  nexts told = by-next (record { says = told .0; behind = told .1 })
+  nexts told = by-next told
+
+  pub next-first : next-reads.Learnt κs a z e → {answers : List ElementStep} → Run (CallPost (now (a .1 .0)) (a .1 .1 .0)) afterStep (afterStep z) answers → Run (CallPost (now (a .1 .0)) (a .1 .1 .0)) afterStep (a .0) (z ∷ answers)
+  next-first told run = asks (nexts told) run
 
 -- ---- tags, references and members
 
@@ -124,6 +136,9 @@ module _ (κs : Lfts 1) (a : ArgsD tag.signature κs) (z : ResD tag.signature κ
   pub tag-steps : tag-reads.Learnt κs a z e → TagPost (now (a .1 .0)) (a .1 .1 .0) (a .0) z
   tag-steps told = record { says = told .0; behind = told .1 }
 
+  pub tag-first : tag-reads.Learnt κs a z e → {answers : List TagIterStep} → Run (TagPost (now (a .1 .0)) (a .1 .1 .0)) afterTag (afterTag z) answers → Run (TagPost (now (a .1 .0)) (a .1 .1 .0)) afterTag (a .0) (z ∷ answers)
+  tag-first told run = asks (tag-steps told) run
+
 module _ (κs : Lfts 0) (a : ArgsD refs-new.signature κs) (z : ResD refs-new.signature κs) (e : AtExit (endedOf 0 refs-new-kinds.ps refs-new-kinds.r) κs) where
   pub refs-start : refs-new-reads.Learnt κs a z e → z ≡ refsStart (a .0)
   refs-start told = told
@@ -132,6 +147,9 @@ module _ (κs : Lfts 1) (a : ArgsD ref.signature κs) (z : ResD ref.signature κ
   pub ref-steps : ref-reads.Learnt κs a z e → RefPost (now (a .1 .0)) (a .0) z
   ref-steps told = record { says = told .0; behind = told .1 }
 
+  pub ref-first : ref-reads.Learnt κs a z e → {answers : List WayRefStep} → Run (RefPost (now (a .1 .0))) afterRef (afterRef z) answers → Run (RefPost (now (a .1 .0))) afterRef (a .0) (z ∷ answers)
+  ref-first told run = asks (ref-steps told) run
+
 module _ (κs : Lfts 0) (a : ArgsD members-new.signature κs) (z : ResD members-new.signature κs) (e : AtExit (endedOf 0 members-new-kinds.ps members-new-kinds.r) κs) where
   pub members-start : members-new-reads.Learnt κs a z e → z ≡ membersStart (a .0)
   members-start told = told
@@ -139,6 +157,9 @@ module _ (κs : Lfts 0) (a : ArgsD members-new.signature κs) (z : ResD members-
 module _ (κs : Lfts 1) (a : ArgsD member.signature κs) (z : ResD member.signature κs) (e : AtExit (endedOf 1 member-kinds.ps member-kinds.r) κs) where
   pub member-steps : member-reads.Learnt κs a z e → MemberPost (now (a .1 .0)) (a .1 .1 .0) (a .0) z
   member-steps told = record { says = told .0; behind = told .1 }
+
+  pub member-first : member-reads.Learnt κs a z e → {answers : List RelMemberStep} → Run (MemberPost (now (a .1 .0)) (a .1 .1 .0)) afterMember (afterMember z) answers → Run (MemberPost (now (a .1 .0)) (a .1 .1 .0)) afterMember (a .0) (z ∷ answers)
+  member-first told run = asks (member-steps told) run
 
 module _ (κs : Lfts 1) (a : ArgsD role.signature κs) (z : ResD role.signature κs) (e : AtExit (endedOf 1 role-kinds.ps role-kinds.r) κs) where
   pub role-told : role-reads.Learnt κs a z e → z ≡ roleAt (now (a .0)) (a .1 .0) (a .1 .1 .0)

@@ -4,17 +4,15 @@ use Prim.Native.Nat.{ℕ, zero, suc, _+_}
 use mathlib.Core.Path.{_≡_, refl, sym, ap, _∙_, subst}
 use native.Mathlib.Omega.{arith}
 use lib.IntN.{ℤ, pos}
-use lib.Dec.{eqb}
 use lib.ListN.{length}
-use borrow.Author.Tests.{eqb-true}
-use Rattle.protobuf.specs.declared.refusal.Refusal.the-variants.{Counts}
 use Rattle.protobuf.specs.Stream.{end, more, mapped}
 use Rattle.protobuf.specs.Column.{ended, cut, Column, sint64s, sumsFrom, sums}
 use Rattle.fields.specs.Outcome.{Outcome, kept}
-use Rattle.fields.proofs.laws.Outcome.{each-kept, went, chosen, kept-same}
+use Rattle.fields.proofs.laws.Outcome.{each-kept, went, kept-same}
 use Rattle.block.specs.Columns.{countOf}
 use Rattle.block.specs.Stored.{valuesOf}
 use Rattle.block.specs.Check.{agreed, sameThree, readWhole, passed}
+use Rattle.block.proofs.laws.Accepted.{agree-both}
 use Rattle.walk.specs.Shows.{Streams, all-out, one-more}
 
 -- a column of n values, and then its end
@@ -66,15 +64,6 @@ whole-streams (one-value w) = one-more refl (whole-streams w)
 pub read-whole : (c : Column ℕ) → readWhole c ≡ passed → Ends c
 read-whole c e = let counted = went (countOf c) _ e in record { count = counted .value; whole = counted-whole c (counted .is) }
 
--- counts that agree are equal
-agreed-both : (a b : Outcome ℕ) {n : ℕ} → agreed a b ≡ kept n → (a ≡ kept n) × (b ≡ kept n)
-unfolding agreed
-agreed-both a b e =
-    let first = went a _ e in
-    let second = went b _ (first .on) in
-    let test = chosen (eqb (first .value) (second .value)) (kept (first .value)) Counts (second .on) in
-    (first .is ∙ test .1, second .is ∙ ap kept (sym (eqb-true _ _ (test .0))) ∙ test .1)
-
 pub record Three (n : ℕ) (a b c : Column ℕ) : Type 0 where
   pub first : Whole n a
   pub second : Whole n b
@@ -82,11 +71,11 @@ pub record Three (n : ℕ) (a b c : Column ℕ) : Type 0 where
 
 pub whole-two : (a b : Column ℕ) {n : ℕ} → agreed (countOf a) (countOf b) ≡ kept n → Whole n a × Whole n b
 whole-two a b e =
-    let both = agreed-both (countOf a) (countOf b) e in
+    let both = agree-both (countOf a) (countOf b) e in
     (counted-whole a (both .0), counted-whole b (both .1))
 
 pub whole-three : (a b c : Column ℕ) {n : ℕ} → sameThree a b c ≡ kept n → Three n a b c
 whole-three a b c e =
-    let first = agreed-both (countOf a) (agreed (countOf b) (countOf c)) e in
+    let first = agree-both (countOf a) (agreed (countOf b) (countOf c)) e in
     let others = whole-two b c (first .1) in
     record { first = counted-whole a (first .0); second = others .0; third = others .1 }

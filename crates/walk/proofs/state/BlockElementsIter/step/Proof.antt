@@ -10,12 +10,15 @@ returns : tie.Need-returns
 returns c =
     let t = c .before in
     let a = t .before .before .before .args in
-    (ap (elementSaid _ _) (c .end .ensures) ∙ ap (elementsFrom (a .buffer .now) (a .block)) (sym (t .enum-told .given .1)), ap elementBehind (c .end .ensures))
+    record {
+      says = ap (elementSaid _ _) (c .end .ensures) ∙ ap (elementsFrom (a .buffer .now) (a .block)) (sym (t .enum-told .given .1));
+      behind = ap elementBehind (c .end .ensures);
+    }
 
 returns-2 : tie.Need-returns-2
 returns-2 c =
     let a = c .before .before .before .args in
-    (c .tested .ensures .0 ∙ not-ended (a .buffer .now) (a .block) (a .self) (c .before .match .keys2), c .tested .ensures .1)
+    record { says = c .tested .ensures .0 ∙ not-ended (a .buffer .now) (a .block) (a .self) (c .before .match .keys2); behind = c .tested .ensures .1 }
 
 pub step-spec : {M : Type 1} → statement M
 step-spec =
