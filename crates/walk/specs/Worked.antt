@@ -6,8 +6,9 @@ use mathlib.Core.Path.{_≡_, refl}
 use mathlib.Core.List.{List, [], _∷_, _++_}
 use mathlib.Core.Option.{none, some}
 use mathlib.Core.Bool.{Bool, true, false}
+use native.Mathlib.Omega.{arith}
 use lib.ListN.{replicate}
-use lib.IntN.{ℤ, pos}
+use lib.IntN.{pos}
 use Rattle.numbers.specs.Little.{little, numberAt}
 use Rattle.numbers.specs.Signed.{signed, twos, unzigzag, zigzag, residue, wrap}
 use Rattle.protobuf.specs.declared.refusal.Refusal.the-variants.{VarintCut, VarintLong, SecondColumn, SecondDense, Counts, Outside}
@@ -27,11 +28,9 @@ use Rattle.fields.specs.View.{columnPart, infoPart, put, store, viewFrom, view,
 use Rattle.groups.specs.Group.{denseFrom, denseIn}
 use Rattle.wire.specs.declared.record.WireBlock.{WireBlock}
 use Rattle.lookup.specs.Lookup.{groupAt}
-use Rattle.block.specs.Listing.{Kind, denseNode, looseNode, aWay, aRelation}
 use Rattle.block.specs.Tags.{takePairs}
 use Rattle.block.specs.Infos.{Info}
 use Rattle.columns.specs.declared.sums.Sum64.{Sum64}
-use Rattle.columns.specs.declared.sums.Sum32.{Sum32}
 use Rattle.columns.specs.InStep.{ahead, startOf}
 use Rattle.columns.specs.Zip.{zip}
 use Rattle.elements.specs.Tags.{pairBy, pairsOf}
@@ -44,7 +43,8 @@ use Rattle.walk.specs.declared.state.DenseNodeIter.{DenseNodeIter}
 use Rattle.walk.specs.Dense.{nodesOf}
 use Rattle.walk.specs.Loose.{viewedAll}
 use Rattle.walk.specs.Walk.{Found, _then_, groupsFrom, testedFrom, elementsFrom, fresh}
-use Rattle.walk.specs.Shows.{kindOf, itemId, referencesOf}
+use Rattle.walk.specs.Shows.{referencesOf}
+use Rattle.walk.specs.Run.{Says, gives, over, refuses, Hands, hands-one, hands-end}
 
 -- a record of no strings that says where the groups' table stands
 abbrev place : ℕ → ℕ → ℕ → WireBlock
@@ -92,16 +92,26 @@ both = place 63 2 63
 abbrev stamp : Info
 stamp = record { version = pos 1; timestamp = pos 1; changeset = pos 2; uid = pos 3; user = pos 4; visible = true }
 
+-- the walk from its end: the last group's way, the relation before it, and the node and the way before that, by where the node's Info stands
+abbrev last : Column Found
+last =
+    more (handed 1 (partBy 61 2) (wayItem (record { id = pos 10; keys = noPart; vals = noPart; info = noPart; refs = noPart; lat = noPart; lon = noPart; pins = noPart }))) (end ended)
+
+abbrev theRelation : Column Found
+theRelation =
+    more (handed 0 (partBy 2 2) (relationItem (record { id = pos 5; keys = noPart; vals = noPart; info = noPart; roles = noPart; memids = noPart; types = noPart }))) last
+
+abbrev behindNodes : Part → Column Found
+behindNodes info =
+    more (handed 0 (partBy 49 10) (nodeItem (record { id = pos 4; lat = pos 1; lon = pos 2; keys = noPart; vals = noPart; info = info })))
+    (more (handed 0 (partBy 6 5) (wayItem (record { id = pos 3; keys = noPart; vals = noPart; info = noPart; refs = partBy 10 1; lat = noPart; lon = noPart; pins = noPart }))) theRelation)
+
 -- the walk, by what a dense node has as its info and where a node's Info stands
 abbrev walked : RowInfo → RowInfo → Part → Column Found
 walked first second info =
     more (handed 0 (partBy 13 34) (denseItem (record { id = pos 1; lat = pos 2; lon = pos 3; tags = more (pairBy 1 2) (end ended); info = first })))
     (more (handed 0 (partBy 13 34) (denseItem (record { id = pos 2; lat = pos 1; lon = pos 4; tags = end ended; info = second })))
-    (more (handed 0 (partBy 49 10) (nodeItem (record { id = pos 4; lat = pos 1; lon = pos 2; keys = noPart; vals = noPart; info = info })))
-    (more (handed 0 (partBy 6 5) (wayItem (record { id = pos 3; keys = noPart; vals = noPart; info = noPart; refs = partBy 10 1; lat = noPart; lon = noPart; pins = noPart })))
-    (more (handed 0 (partBy 2 2) (relationItem (record { id = pos 5; keys = noPart; vals = noPart; info = noPart; roles = noPart; memids = noPart; types = noPart })))
-    (more (handed 1 (partBy 61 2) (wayItem (record { id = pos 10; keys = noPart; vals = noPart; info = noPart; refs = noPart; lat = noPart; lon = noPart; pins = noPart })))
-    (end ended))))))
+    (behindNodes info))
 
 -- ---- groups that are refused
 
@@ -145,26 +155,36 @@ column at to = record { at = at; end = to }
 abbrev sum : State → Sum64
 sum c = record { column = c; sum = pos 0 }
 
--- dense nodes whose rows have ended, by keys_vals
-abbrev dense : ℕ → Part → State → State → DenseNodeIter
-dense group message lons keyvals =
+-- dense nodes of a group by its number and length, with columns that have ended
+abbrev dense : ℕ → ℕ → Part → DenseNodeIter
+dense group len message =
     record {
-      of = record { group = group; start = 59; len = 4 };
+      of = record { group = group; start = 59; len = len };
       message = message;
-      columns = record { rows = record { ids = sum (column 0 0); lats = sum (column 0 0); lons = sum lons }; keyvals = keyvals };
+      columns = record { rows = record { ids = sum (column 0 0); lats = sum (column 0 0); lons = sum (column 0 0) }; keyvals = column 0 0 };
     }
 
-abbrev stamped : State → State → BlockElementsIter
-stamped version visible =
+-- the same in the last group, by their columns
+abbrev denseBy : State → State → State → State → BlockElementsIter
+denseBy ids lats lons keyvals =
+    walk.DenseNodes
+    (record {
+      of = record { group = 1; start = 59; len = 4 };
+      message = noPart;
+      columns = record { rows = record { ids = sum ids; lats = sum lats; lons = sum lons }; keyvals = keyvals };
+    })
+
+abbrev stamped : ℕ → State → State → State → BlockElementsIter
+stamped group version uid visible =
     walk.FullDenseNodes
     (record {
-      nodes = dense 1 noPart (column 0 0) (column 0 0);
+      nodes = dense group 4 noPart;
       infos =
           record {
             version = version;
             timestamp = sum (column 0 0);
             changeset = sum (column 0 0);
-            uid = record { column = column 0 0; sum = pos 0 };
+            uid = record { column = uid; sum = pos 0 };
             user = record { column = column 0 0; sum = pos 0 };
             visible = visible;
           };
@@ -173,9 +193,10 @@ stamped version visible =
 abbrev from : BlockElementsIter → Column Found
 from = elementsFrom buffer both
 
-abbrev last : Column Found
-last =
-    more (handed 1 (partBy 61 2) (wayItem (record { id = pos 10; keys = noPart; vals = noPart; info = noPart; refs = noPart; lat = noPart; lon = noPart; pins = noPart }))) (end ended)
+-- the way of the last group as one of the first, and then as itself
+abbrev theWayTwice : Column Found
+theWayTwice =
+    more (handed 0 (partBy 61 2) (wayItem (record { id = pos 10; keys = noPart; vals = noPart; info = noPart; refs = noPart; lat = noPart; lon = noPart; pins = noPart }))) last
 
 pub record Worked : Type 0 where
   -- group by group: dense nodes, nodes, ways, relations; a plain walk has no metadata
@@ -205,13 +226,28 @@ pub record Worked : Type 0 where
   pub at-the-groups-end : from (among 0 kind.Relations 59) ≡ last
   pub behind-the-groups-end : from (among 0 kind.Relations 60) ≡ end (cut Outside)
   pub no-such-group : from (among 2 kind.Relations 59) ≡ end (cut Outside)
-  pub nodes-ended : from (walk.DenseNodes (dense 1 noPart (column 0 0) (column 0 0))) ≡ last
-  pub lons-outside : from (walk.DenseNodes (dense 1 noPart (column 79 80) (column 0 0))) ≡ end (cut Outside)
-  pub keys-vals-outside : from (walk.DenseNodes (dense 1 noPart (column 0 0) (column 1 0))) ≡ end (cut Outside)
-  pub message-outside : from (walk.DenseNodes (dense 1 (partBy 79 1) (column 0 0) (column 0 0))) ≡ end (cut Outside)
-  pub infos-ended : from (stamped (column 0 0) (column 0 0)) ≡ last
-  pub visible-outside : from (stamped (column 0 0) (column 79 80)) ≡ end (cut Outside)
-  pub version-before-the-end : from (stamped (column 10 11) (column 0 0)) ≡ end (cut VarintCut)
+  pub range-outside : from (walk.Messages (record { full = false; of = record { group = 0; start = 0; len = 80 }; kind = kind.Relations; at = 59 })) ≡ end (cut Outside)
+  pub nodes-ended : from (walk.DenseNodes (dense 1 4 noPart)) ≡ last
+  pub nodes-of-no-group : from (walk.DenseNodes (dense 2 4 noPart)) ≡ end (cut Outside)
+  pub nodes-range-outside : from (walk.DenseNodes (dense 1 21 noPart)) ≡ end (cut Outside)
+  pub message-outside : from (walk.DenseNodes (dense 1 4 (partBy 79 1))) ≡ end (cut Outside)
+  pub ids-outside : from (denseBy (column 1 0) (column 0 0) (column 0 0) (column 0 0)) ≡ end (cut Outside)
+  pub lats-outside : from (denseBy (column 0 0) (column 79 80) (column 0 0) (column 0 0)) ≡ end (cut Outside)
+  pub lons-outside : from (denseBy (column 0 0) (column 0 0) (column 79 80) (column 0 0)) ≡ end (cut Outside)
+  pub keys-vals-outside : from (denseBy (column 0 0) (column 0 0) (column 0 0) (column 1 0)) ≡ end (cut Outside)
+  pub infos-ended : from (stamped 1 (column 0 0) (column 0 0) (column 0 0)) ≡ last
+  pub infos-of-no-group : from (stamped 2 (column 0 0) (column 0 0) (column 0 0)) ≡ end (cut Outside)
+  pub uids-outside : from (stamped 1 (column 0 0) (column 79 80) (column 0 0)) ≡ end (cut Outside)
+  pub visible-outside : from (stamped 1 (column 0 0) (column 0 0) (column 79 80)) ≡ end (cut Outside)
+  pub version-before-the-end : from (stamped 1 (column 10 11) (column 0 0) (column 0 0)) ≡ end (cut VarintCut)
+  -- among the messages of a kind: those from the place on, then the kinds behind it, plain or full as the state is
+  pub among-nodes : from (among 0 kind.Nodes 0) ≡ behindNodes noPart
+  pub among-nodes-in-full : from (walk.Messages (record { full = true; of = record { group = 0; start = 0; len = 59 }; kind = kind.Nodes; at = 0 })) ≡ behindNodes (partBy 53 2)
+  pub behind-the-way : from (among 0 kind.Ways 11) ≡ theRelation
+  pub among-relations : from (among 0 kind.Relations 0) ≡ theRelation
+  -- and then the groups behind, where dense nodes have ended as well
+  pub groups-behind-nodes : from (walk.DenseNodes (dense 0 4 noPart)) ≡ theWayTwice
+  pub groups-behind-infos : from (stamped 0 (column 0 0) (column 0 0) (column 0 0)) ≡ theWayTwice
   -- a wire error ends the messages of a kind quietly, where a state is among them
   pub quiet-at-a-wire-error : elementsFrom (0x1A ∷ 0x05 ∷ entry 0 2) (place 2 1 2) (walk.Messages (record { full = false; of = record { group = 0; start = 0; len = 2 }; kind = kind.Ways; at = 0 })) ≡ end ended
 
@@ -241,12 +277,48 @@ worked =
       at-the-groups-end = refl;
       behind-the-groups-end = refl;
       no-such-group = refl;
+      range-outside = refl;
       nodes-ended = refl;
+      nodes-of-no-group = refl;
+      nodes-range-outside = refl;
+      message-outside = refl;
+      ids-outside = refl;
+      lats-outside = refl;
       lons-outside = refl;
       keys-vals-outside = refl;
-      message-outside = refl;
       infos-ended = refl;
+      infos-of-no-group = refl;
+      uids-outside = refl;
       visible-outside = refl;
       version-before-the-end = refl;
+      among-nodes = refl;
+      among-nodes-in-full = refl;
+      behind-the-way = refl;
+      among-relations = refl;
+      groups-behind-nodes = refl;
+      groups-behind-infos = refl;
       quiet-at-a-wire-error = refl;
     }
+
+-- ---- runs: what answers do not hand out a list
+
+abbrev Handing : List (Says ℕ) → List ℕ → Type 0
+Handing = Hands (λ a. a) _≡_
+
+pub not-ended-early : Handing (over ∷ []) (1 ∷ []) → ⊥
+not-ended-early (hands-one told is others) = let z : _≡_ {A = ℕ} 0 1 = cc in omega arith
+
+pub not-another : Handing (gives 2 ∷ []) (1 ∷ []) → ⊥
+not-another (hands-one told is others) = let z : _≡_ {A = ℕ} 2 1 = cc in omega arith
+
+pub not-one-more : Handing (gives 1 ∷ []) [] → ⊥
+not-one-more (hands-end told others) = let z : _≡_ {A = ℕ} 0 1 = cc in omega arith
+
+pub not-refused : Handing (refuses Outside ∷ []) (1 ∷ []) → ⊥
+not-refused (hands-one told is others) = let z : _≡_ {A = ℕ} 0 1 = cc in omega arith
+
+pub not-refused-at-the-end : Handing (refuses Outside ∷ []) [] → ⊥
+not-refused-at-the-end (hands-end told others) = let z : _≡_ {A = ℕ} 0 1 = cc in omega arith
+
+pub not-again : Handing (over ∷ gives 1 ∷ []) [] → ⊥
+not-again (hands-end told (hands-end again others)) = let z : _≡_ {A = ℕ} 0 1 = cc in omega arith

@@ -1,4 +1,4 @@
-// The dense nodes of a group: DenseColumns of the Rust, plain and with metadata.
+// The dense nodes of a group: DenseNodeIter of the Rust, plain and with metadata.
 ghost use mathlib.Core.Path.{_≡_};
 ghost use mathlib.Core.Bool.{true, false};
 ghost use lib.Dec.{ltb, eqb};
