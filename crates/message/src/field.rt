@@ -1,11 +1,16 @@
 // Messages: field after field, the step of every view.
 ghost use mathlib.Core.Path.{_≡_};
-ghost use Rattle.message.specs.Message.{fieldAt};
-ghost use Rattle.message.specs.Answers.{fieldOf};
+ghost use Rattle.protobuf.specs.Tag.{split};
+ghost use Rattle.message.specs.Message.{withPayload, fieldAt};
+ghost use Rattle.message.specs.Answers.{payloadOf, fieldOf};
 use crate::payload::Payload;
+use crate::payload::read_len_delimited;
 use crate::payload::read_payload;
+use crate::payload::read_raw_varint;
 use protobuf::refusal::Refusal;
+use protobuf::tag::LEN;
 use protobuf::tag::Tag;
+use protobuf::tag::VARINT;
 use protobuf::tag::read_tag;
 
 // What stands where a field may be.
@@ -29,8 +34,29 @@ pub enum Field {
     },
 }
 
-// The field at `at`, or the end of the message: 14 where `at` is behind the end, then the tag's refusals, then its payload's.
-pub fn next_field(s: &[u8], at: usize) -> Field
+// A field by its tag's value and its payload.
+fn field_by(tag: u32, p: Payload) -> Field
+    ensures { λ r. ⌜ fieldOf r ≡ withPayload (split tag) (payloadOf p) ⌝ }
+{
+    match p {
+        Payload::Refused(refusal) => Field::Spoilt { tag, refusal },
+        Payload::Taken {
+            value,
+            start,
+            len,
+            next,
+        } => Field::Read {
+            tag,
+            value,
+            start,
+            len,
+            next,
+        },
+    }
+}
+
+// The field at `at`, whatever its tag is.
+fn any_field(s: &[u8], at: usize) -> Field
     ensures { λ r. ⌜ fieldOf r ≡ fieldAt (now (s .entry)) at ⌝ }
 {
     let t = read_tag(s, at);
@@ -38,23 +64,30 @@ pub fn next_field(s: &[u8], at: usize) -> Field
         Tag::Done => Field::Complete,
         Tag::Refused(n) => Field::Cut(n),
         Tag::Field { field, wire, next } => {
-            let tag = field * 8 + wire;
             let p = read_payload(s, next, field, wire);
-            match p {
-                Payload::Refused(n) => Field::Spoilt { tag, refusal: n },
-                Payload::Taken {
-                    value,
-                    start,
-                    len,
-                    next: behind,
-                } => Field::Read {
-                    tag,
-                    value,
-                    start,
-                    len,
-                    next: behind,
-                },
-            }
+            field_by(field * 8 + wire, p)
         }
+    }
+}
+
+// The field at `at`, or the end of the message: 14 where `at` is behind the end, then the tag's refusals, then its payload's. Nearly every
+// field of a map has a tag of one byte and a number or a length behind it, and that way is a third of the other.
+pub fn next_field(s: &[u8], at: usize) -> Field
+    ensures { λ r. ⌜ fieldOf r ≡ fieldAt (now (s .entry)) at ⌝ }
+{
+    if s.len() <= at {
+        return any_field(s, at);
+    }
+    let tag = s[at];
+    if tag < 8 {
+        return any_field(s, at);
+    }
+    if 128 <= tag {
+        return any_field(s, at);
+    }
+    match (tag % 8) as u32 {
+        VARINT => field_by(tag as u32, read_raw_varint(s, at + 1)),
+        LEN => field_by(tag as u32, read_len_delimited(s, at + 1)),
+        _ => any_field(s, at),
     }
 }

@@ -1,18 +1,21 @@
 -- The laws of a message that views use: the fields from p are the field at p and the fields from the next place; a next place is behind
 -- its field's and within the bytes; a part lies within its message.
-use Prim.Native.Nat.{ℕ, suc, _+_, _*_, _≤_, _<_}
+use Prim.Native.Nat.{ℕ, suc, _+_, _*_, _%_, _≤_, _<_}
 use mathlib.Core.Path.{_≡_, refl, sym, ap, _∙_, subst}
 use mathlib.Core.List.{List}
 use native.Mathlib.Omega.{arith}
-use lib.ListN.{length}
+use lib.ListN.{length, getD}
+use borrow.Author.Tests.{le-leb}
 use Rattle.protobuf.specs.declared.refusal.Refusal.{Refusal}
 use Rattle.protobuf.specs.Read.{Read, taken, refused}
 use Rattle.protobuf.specs.Tag.{Tag, tagBy, split, TagAt, done, tagged, untagged, tagAt}
-use Rattle.message.specs.Payload.{Payload, payload}
+use Rattle.protobuf.specs.Varint.{varint}
+use Rattle.message.specs.Payload.{Payload, rawVarint, lengthDelimited, valueBy, payload}
 use Rattle.protobuf.specs.Stream.{Item, last, item, follow}
 use Rattle.message.specs.Message.{Field, MessageEnd, complete, cut, spoilt, withPayload, withTag, fieldAt, messageFrom}
 use Rattle.protobuf.proofs.laws.Read.{reached}
-use Rattle.protobuf.proofs.laws.Tag.{tag-reach, tagged-tag, small-parts, split-joined}
+use Rattle.protobuf.proofs.laws.Varint.{one-byte}
+use Rattle.protobuf.proofs.laws.Tag.{tag-read, tag-reach, tagged-tag, small-parts, split-joined}
 use Rattle.message.proofs.laws.Group.{payload-reach}
 use Rattle.message.proofs.laws.Within.{part-within}
 use Rattle.protobuf.proofs.laws.Stream.{Forward, unroll, Every, every}
@@ -28,24 +31,33 @@ module _ (s : List ℕ) (p : ℕ) where
   unfolding fieldAt
   cut-at e = ap (withTag s) e
 
-  pub spoilt-at : {t : Tag} {q : ℕ} {n : Refusal} → tagAt s p ≡ tagged t q → payload s t q ≡ refused n → fieldAt s p ≡ last (spoilt t n)
+  pub tagged-at : {t : Tag} {q : ℕ} → tagAt s p ≡ tagged t q → fieldAt s p ≡ withPayload t (payload s t q)
   unfolding fieldAt
-  spoilt-at {t} e g = ap (withTag s) e ∙ ap (withPayload t) g
-
-  pub field-at : {t : Tag} {q r : ℕ} {v : Payload} → tagAt s p ≡ tagged t q → payload s t q ≡ taken v r → fieldAt s p ≡ item (record { tag = t; payload = v }) r
-  unfolding fieldAt
-  field-at {t} e g = ap (withTag s) e ∙ ap (withPayload t) g
+  tagged-at e = ap (withTag s) e
 
   -- the same by the tag's value, put together from its parts
-  module _ {f w q : ℕ} (e : tagAt s p ≡ tagged (tagBy f w) q) where
-    joined : tagBy f w ≡ split (f * 8 + w)
-    joined = sym (split-joined f w (small-parts s p (tagged-tag s p e .1) .1))
+  pub field-by : {f w q : ℕ} {r : Read Payload} → tagAt s p ≡ tagged (tagBy f w) q → payload s (tagBy f w) q ≡ r → fieldAt s p ≡ withPayload (split (f * 8 + w)) r
+  field-by {f} {w} {q} {r} e g =
+      let joined : tagBy f w ≡ split (f * 8 + w) = sym (split-joined f w (small-parts s p (tagged-tag s p e .1) .1)) in
+      tagged-at e ∙ (λ i. withPayload (joined i) (g i))
 
-    pub spoilt-by : {n : Refusal} → payload s (tagBy f w) q ≡ refused n → fieldAt s p ≡ last (spoilt (split (f * 8 + w)) n)
-    spoilt-by {n} g = spoilt-at e g ∙ ap (λ (t : Tag). last (spoilt t n)) joined
+  -- a tag of one byte
+  module _ {t : ℕ} (inside : p < length s) (is : getD s p 0 ≡ t) (field : 8 ≤ t) (short : t < 128) where
+    short-tag : tagAt s p ≡ tagged (split t) (p + 1)
+    short-tag =
+        let one : varint s p ≡ taken t (p + 1) = one-byte s p inside (omega arith) ∙ ap (λ (v : ℕ). taken v (p + 1)) is in
+        tag-read s p (λ e. omega arith) one field (omega arith)
 
-    pub field-by : {r : ℕ} {v : Payload} → payload s (tagBy f w) q ≡ taken v r → fieldAt s p ≡ item (record { tag = split (f * 8 + w); payload = v }) r
-    field-by {r} {v} g = field-at e g ∙ ap (λ (t : Tag). item (record { tag = t; payload = v }) r) joined
+    short-by : {r : Read Payload} → payload s (split t) (p + 1) ≡ r → fieldAt s p ≡ withPayload (split t) r
+    short-by g = tagged-at short-tag ∙ ap (withPayload (split t)) g
+
+    pub short-varint : t % 8 ≡ 0 → fieldAt s p ≡ withPayload (split t) (rawVarint s (p + 1))
+    unfolding payload valueBy
+    short-varint w = short-by {r = rawVarint s (p + 1)} (rw (le-leb (p + 1) (length s) (omega arith), w))
+
+    pub short-length : t % 8 ≡ 2 → fieldAt s p ≡ withPayload (split t) (lengthDelimited s (p + 1))
+    unfolding payload valueBy
+    short-length w = short-by {r = lengthDelimited s (p + 1)} (rw (le-leb (p + 1) (length s) (omega arith), w))
 
 -- ---- the next place
 

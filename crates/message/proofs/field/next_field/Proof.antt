@@ -1,19 +1,12 @@
--- `next_field` is `fieldAt`: the tag's answer, and behind a tag the payload's. The tag's value is put together from its parts, which
--- `split` takes apart again.
+-- `next_field` is `fieldAt`: by the tag's one byte where it is one of a number or of a length, and else by `any_field`.
 use borrow.Author.Needs.{needs}
 use native.Mathlib.Omega.{arith}
-use mathlib.Core.Path.{_≡_, sym}
-use Rattle.protobuf.specs.Tag.{tagBy, tagAt, tagged}
-use Rattle.protobuf.specs.Answers.{tagOf}
-use Rattle.message.specs.Answers.{payloadOf}
-use Rattle.protobuf.proofs.laws.Read.{says}
-use Rattle.protobuf.proofs.laws.Tag.{tagged-tag, small-parts}
-use Rattle.message.proofs.laws.Message.{complete-at, cut-at, spoilt-by, field-by}
+use mathlib.Core.Path.{refl, sym, ap, _∙_}
+use Rattle.protobuf.specs.Tag.{split}
+use Rattle.message.specs.Message.{withPayload}
+use Rattle.message.proofs.laws.Message.{short-varint, short-length}
 use Rattle.message.proofs.field.next_field.Statement.{statement}
 use Rattle.message.proofs.field.next_field.Tie as tie
-
-found : (c : tie.After-t2) → let a = c .before .before .before .before .args in let g = c .t2 .given .0 in tagAt (a .s .now) (a .at) ≡ tagged (tagBy (g .0) (g .1 .0)) (g .1 .1 .0)
-found c = says tagOf (c .before .before .read-tag .ensures) (c .t2 .given .1)
 
 pub next-field-spec : {M : Type 1} → statement M
 next-field-spec =
@@ -22,15 +15,20 @@ next-field-spec =
     (λ c κs. search needs)
     (λ c. search needs)
     (λ c. search needs)
+    (λ c κs. search needs)
     (λ c. search needs)
-    (λ c. omega (arith, small-parts _ _ (tagged-tag _ _ (found (c .before)) .1)))
-    (λ c. omega (arith, small-parts _ _ (tagged-tag _ _ (found (c .before)) .1)))
     (λ c κs. search needs)
     (λ c. search needs)
     (λ c. search needs)
-    (λ c. sym (complete-at _ _ (says tagOf (c .before .before .read-tag .ensures) (c .enum-told .given .1))))
-    (λ c. sym (cut-at _ _ (says tagOf (c .before .before .before .read-tag .ensures) (c .before .t .given .1))))
-    (λ c. let d = c .before .before .before in
-    sym (spoilt-by _ _ (found (d .before .before)) (says payloadOf (d .read-payload .ensures) (c .before .p .given .1))))
-    (λ c. let d = c .before .before .before in
-    sym (field-by _ _ (found (d .before .before)) (says payloadOf (d .read-payload .ensures) (c .before .p2 .given .1)))))
+    (λ c. search needs)
+    (λ c. search needs)
+    (λ c κs. search needs)
+    (λ c κs. search needs)
+    (λ c. search needs)
+    (λ c. search needs)
+    (λ c κs. search needs)
+    (λ c κs. search needs)
+    (λ c κs. search needs)
+    (λ c. c .field-by .ensures ∙ ap (withPayload (split _)) (c .before .read-raw-varint .ensures) ∙ sym (short-varint _ _ (omega arith) refl (omega arith) (omega arith) (omega arith)))
+    (λ c. c .field-by2 .ensures ∙ ap (withPayload (split _)) (c .before .read-len-delimited .ensures) ∙ sym (short-length _ _ (omega arith) refl (omega arith) (omega arith) (omega arith)))
+    (λ c. search needs))
