@@ -6,8 +6,8 @@
  *
  * Every function that is linked returns a code: 0 for success, the number of a refusal, or one of the two codes above the refusals. Where
  * the code is not 0, no byte of any buffer changes, with one exception: a slot for a state, which stands for a value, then holds the ended
- * state. A slice for an answer that is too short gives 14 before anything else is looked at, but for a slot whose state has ended. A longer
- * one is fine: only the bytes that the answer takes are written.
+ * state, whose first number is 0. A slice for an answer that is too short gives 14 before anything else is looked at, but for a slot whose
+ * state has ended. A longer one is fine: only the bytes that the answer takes are written.
  *
  * Every call ends, on all bytes and all arguments, and reads and writes nothing outside what it is lent. For that each pointer has to
  * point to as many bytes as its length says, where the length is 0 to anything but null, and bytes that a call may write must not overlap
@@ -25,9 +25,9 @@ extern "C" {
 /* ---- the version of this header and its library */
 
 #define NUORPYTS_VERSION_MAJOR 0u
-#define NUORPYTS_VERSION_MINOR 1u
+#define NUORPYTS_VERSION_MINOR 2u
 #define NUORPYTS_VERSION_PATCH 0u
-#define NUORPYTS_VERSION "0.1.0"
+#define NUORPYTS_VERSION "0.2.0"
 
 /* ---- a number in an answer or a state */
 
@@ -35,12 +35,8 @@ extern "C" {
 
 /* The number whose 8 bytes begin here. */
 static inline uint64_t nuorpyts_read_number(const uint8_t *from) {
-    uint64_t value = 0;
-    unsigned i;
-    for (i = NUORPYTS_NUMBER_SIZE; i > 0; i--) {
-        value = value << 8 | from[i - 1];
-    }
-    return value;
+    return (uint64_t)from[0] | (uint64_t)from[1] << 8 | (uint64_t)from[2] << 16 | (uint64_t)from[3] << 24 | (uint64_t)from[4] << 32 |
+           (uint64_t)from[5] << 40 | (uint64_t)from[6] << 48 | (uint64_t)from[7] << 56;
 }
 
 /* The signed number whose 8 bytes begin here. */
@@ -327,6 +323,267 @@ static inline void nuorpyts_messages_start(uint8_t *state, uint64_t start, uint6
  * Writes: with 0 the 24 bytes, and the state's 40. With 101 and 14, but for a state that has ended or is too short, the ended state: five
  * times 0. */
 uint32_t nuorpyts_message(const uint8_t *buffer, size_t buffer_len, uint8_t *state, size_t state_len, uint8_t *out, size_t out_len);
+
+/* ---- walks
+ *
+ * A walk hands out the elements of a scanned block one after the other: group by group its dense nodes, nodes, ways and relations. A plain
+ * walk reads no metadata and hands out none of it; a full walk does. From each element there are walks over its tags, its references and
+ * its members. All of them go in the same way: a start writes a state into a slot that the caller lends, and each call takes the state
+ * from the slot, gives what comes next and leaves the state behind it there.
+ *
+ *     nuorpyts_walk(state, sizeof state);
+ *     while ((code = nuorpyts_step(buffer, len, record, sizeof record, state, sizeof state, element, sizeof element)) == NUORPYTS_OK) {
+ *         const uint8_t *view = element + NUORPYTS_ELEMENT_VIEW;
+ *         if (nuorpyts_read_number(element + NUORPYTS_ELEMENT_KIND) == NUORPYTS_ELEMENT_WAY) {
+ *             printf("way %lld:", (long long)nuorpyts_read_signed(view + NUORPYTS_WAY_ID));
+ *             nuorpyts_start_refs(element, sizeof element, refs, sizeof refs);
+ *             while (nuorpyts_ref(buffer, len, refs, sizeof refs, id, sizeof id) == NUORPYTS_OK) {
+ *                 printf(" %lld", (long long)nuorpyts_read_signed(id));
+ *             }
+ *             printf("\n");
+ *         }
+ *     }
+ *
+ * Behind it `code` is 101, or the number at which the walk was refused. On what nuorpyts_scan left of a block that nuorpyts_check accepts,
+ * it is 101, and so it is of each walk over an element's tags, references and members.
+ *
+ * Each walk has two kinds of calls, which may take turns on one state: one gives an item a call, the other as many as `out` has room for,
+ * item after item, and puts their count into 8 bytes of `count`. The latter stops before the end and before a number: the next call tells
+ * it. So a call with 0 gives one item at least, and behind fewer than there is room for comes the end or a number.
+ *
+ * What these calls have in common, in this order:
+ * 14: `state` is shorter than the state's SIZE, which leaves it as it is.
+ * 101: the state has ended, which is told before anything else is looked at, and leaves it as it is.
+ * 14: there is no room for an item, `count` is shorter than 8 bytes, `record` is shorter than 72 bytes or has a granularity that is no
+ * int32, the state has numbers that no state has, or something of the record or the state passes the buffer.
+ * Then 101 where nothing more comes, or the number at which the next item is refused.
+ * Writes: with 0 the items, the count, and the state behind the items; bytes behind the items are not written. With any other code, but
+ * for a state that is too short or has ended, the ended state, and nothing else.
+ *
+ * The first number of every state is its phase, NUORPYTS_PHASE_ENDED where it has ended; the others are the library's own. So a slot of
+ * zeros is an ended state, and a walk that was never started gives nothing. A state may be copied, and both then go on from there. */
+#define NUORPYTS_STATE_PHASE 0u
+
+/* The count of a batch: one number. */
+#define NUORPYTS_COUNT_SIZE 8u
+
+/* ---- elements */
+
+/* The state of a walk. */
+#define NUORPYTS_WALK_SIZE 272u
+
+/* Writes the state before a block's first group, in a plain walk.
+ * Refuses: 14 where `state` is shorter than 272 bytes, which leaves it as it is.
+ * Writes: the state. */
+uint32_t nuorpyts_walk(uint8_t *state, size_t state_len);
+
+/* The same in a full walk. */
+uint32_t nuorpyts_walk_full(uint8_t *state, size_t state_len);
+
+/* An element: its kind, its group's number from 0 on, its message's range, and then the numbers of its kind, from NUORPYTS_ELEMENT_VIEW
+ * on. For a node, a way and a relation they are those of its view; in a plain walk its Info is not present. Bytes behind the numbers of
+ * its kind are not written. */
+#define NUORPYTS_ELEMENT_SIZE 208u
+#define NUORPYTS_ELEMENT_KIND 0u
+#define NUORPYTS_ELEMENT_GROUP 8u
+#define NUORPYTS_ELEMENT_MESSAGE_START 16u
+#define NUORPYTS_ELEMENT_MESSAGE_LENGTH 24u
+#define NUORPYTS_ELEMENT_VIEW 32u /* element + NUORPYTS_ELEMENT_VIEW + NUORPYTS_WAY_ID */
+/* kinds */
+#define NUORPYTS_ELEMENT_DENSE_NODE 0u
+#define NUORPYTS_ELEMENT_NODE 1u
+#define NUORPYTS_ELEMENT_WAY 2u
+#define NUORPYTS_ELEMENT_RELATION 3u
+
+/* Dense node, which has no message of its own: its range is that of the group's dense message. Its id and raw position are signed and
+ * stand where a node has them. Its tags are in keys_vals: where they begin in the buffer, and where the column ends. Whether there is
+ * metadata says NUORPYTS_DENSE_NODE_INFO; the numbers behind it are written where it is 2. All of them are signed but visible, which is 0
+ * or 1. */
+#define NUORPYTS_DENSE_NODE_SIZE 96u
+#define NUORPYTS_DENSE_NODE_ID 0u
+#define NUORPYTS_DENSE_NODE_LAT 8u
+#define NUORPYTS_DENSE_NODE_LON 16u
+#define NUORPYTS_DENSE_NODE_TAGS_START 24u
+#define NUORPYTS_DENSE_NODE_TAGS_END 32u
+#define NUORPYTS_DENSE_NODE_INFO 40u
+#define NUORPYTS_DENSE_NODE_VERSION 48u
+#define NUORPYTS_DENSE_NODE_TIMESTAMP 56u
+#define NUORPYTS_DENSE_NODE_CHANGESET 64u
+#define NUORPYTS_DENSE_NODE_UID 72u
+#define NUORPYTS_DENSE_NODE_USER_SID 80u
+#define NUORPYTS_DENSE_NODE_VISIBLE 88u
+/* whether there is metadata */
+#define NUORPYTS_INFO_UNREAD 0u  /* a plain walk reads none */
+#define NUORPYTS_INFO_MISSING 1u /* the message has none for this node */
+#define NUORPYTS_INFO_READ 2u
+
+/* Finds the next element of a block.
+ * Takes: the record's bytes as nuorpyts_scan gave them, and a state, which nuorpyts_walk or nuorpyts_walk_full writes for the first call.
+ * Gives: the element, in 208 bytes of `out`, and the state behind it, in `state`. On what nuorpyts_scan left of a block that
+ * nuorpyts_check accepts, the elements are the block's own, by its bytes alone.
+ * 101: the state has ended, or no element comes before the end.
+ * Refuses: 14 where a walk's calls do, and where the range of a group that the walk comes to passes the buffer; then the first met in
+ * reading order: in a group 2 to 7 and 11 over its own fields, then in its dense message and, in a full walk, the fields of its DenseInfo,
+ * and in each node, way and relation 2 to 7, 9 and 10 where a field cannot be read; for each dense node 2 and 3 where its id, its
+ * position, in a full walk its metadata, or its tags cannot be read, and 12 where ids, lats and lons differ in count.
+ * Writes: with 0 the numbers of the element, and the state. With 101 and a number, but for a state that has ended or is too short, the
+ * state's phase alone, which is then 0. */
+uint32_t nuorpyts_step(const uint8_t *buffer, size_t buffer_len, const uint8_t *record, size_t record_len, uint8_t *state, size_t state_len, uint8_t *out, size_t out_len);
+
+/* The same. */
+uint32_t nuorpyts_next(const uint8_t *buffer, size_t buffer_len, const uint8_t *record, size_t record_len, uint8_t *state, size_t state_len, uint8_t *out, size_t out_len);
+
+/* The same for as many elements as `out` has room for, each in 208 bytes; their count in 8 bytes of `count`. */
+uint32_t nuorpyts_steps(const uint8_t *buffer, size_t buffer_len, const uint8_t *record, size_t record_len, uint8_t *state, size_t state_len, uint8_t *out, size_t out_len, uint8_t *count, size_t count_len);
+
+/* ---- a position in nanodegrees: 2 signed numbers */
+
+#define NUORPYTS_NANODEGREES_SIZE 16u
+#define NUORPYTS_NANODEGREES_LAT 0u
+#define NUORPYTS_NANODEGREES_LON 8u
+
+/* Turns a raw position into nanodegrees: the record's offset and its granularity times the raw number, at 64 bits.
+ * Takes: the record's bytes as nuorpyts_scan gave them, and a node's two raw numbers, as nuorpyts_read_number reads them.
+ * Gives: latitude and longitude, in 16 bytes of `out`.
+ * Refuses: 14 where `out` is shorter than 16 bytes, or `record` is shorter than 72 or has a granularity that is no int32.
+ * Writes: the 16 bytes. */
+uint32_t nuorpyts_nanodegrees(const uint8_t *record, size_t record_len, size_t lat, size_t lon, uint8_t *out, size_t out_len);
+
+/* ---- an element's tags */
+
+/* The state of a walk over an element's tags: five numbers. */
+#define NUORPYTS_TAGS_SIZE 40u
+
+/* 0 where an element surely has no tags, so that a walk over them need not be started; of an element that a walk gave from the same
+ * buffer. Where it is not 0, there may be none all the same. */
+static inline int nuorpyts_has_tags(const uint8_t *buffer, size_t buffer_len, const uint8_t *element) {
+    const uint8_t *view = element + NUORPYTS_ELEMENT_VIEW;
+    uint64_t kind = nuorpyts_read_number(element + NUORPYTS_ELEMENT_KIND);
+    if (kind == NUORPYTS_ELEMENT_DENSE_NODE) {
+        uint64_t start = nuorpyts_read_number(view + NUORPYTS_DENSE_NODE_TAGS_START);
+        uint64_t end = nuorpyts_read_number(view + NUORPYTS_DENSE_NODE_TAGS_END);
+        return start != end && (start >= buffer_len || buffer[start] != 0);
+    }
+    /* a relation has its keys where a way has them */
+    view += kind == NUORPYTS_ELEMENT_NODE ? NUORPYTS_NODE_KEYS : NUORPYTS_WAY_KEYS;
+    return nuorpyts_read_number(view + NUORPYTS_PART_PRESENT) != 0;
+}
+
+/* Writes the state before an element's first tag.
+ * Takes: the element's 208 bytes as a walk gave them.
+ * Refuses: 14 where `state` is shorter than 40 bytes, which leaves it as it is; then where `element` is shorter than 208, or has a kind
+ * or, for its keys or vals, a present that is none.
+ * Writes: with 0 the state; with 14, but for a state that is too short, the ended one: five times 0. */
+uint32_t nuorpyts_start_tags(const uint8_t *element, size_t element_len, uint8_t *state, size_t state_len);
+
+/* A tag: the numbers of its key and its value in the string table, and the ranges of the two texts in the buffer. */
+#define NUORPYTS_TAG_SIZE 48u
+#define NUORPYTS_TAG_KEY 0u
+#define NUORPYTS_TAG_VAL 8u
+#define NUORPYTS_TAG_KEY_START 16u
+#define NUORPYTS_TAG_KEY_LENGTH 24u
+#define NUORPYTS_TAG_VAL_START 32u
+#define NUORPYTS_TAG_VAL_LENGTH 40u
+
+/* Finds the next tag that is shown.
+ * Takes: the record's bytes as nuorpyts_scan gave them, and a state, which nuorpyts_start_tags writes for the first call.
+ * Gives: the tag, in 48 bytes of `out`, and the state behind it, in `state`.
+ * 101: the state has ended, there is no further pair, or the next one has a number that is not below the record's string count or whose
+ * table entry passes the buffer.
+ * Refuses: 14 where a walk's calls do; then 2 and 3 of the two numbers, 12 where there is only one of them, of a dense node 2; then 14
+ * where the range of either text passes the buffer.
+ * Writes: as a walk's calls do; the ended state is five times 0. */
+uint32_t nuorpyts_tag(const uint8_t *buffer, size_t buffer_len, const uint8_t *record, size_t record_len, uint8_t *state, size_t state_len, uint8_t *out, size_t out_len);
+
+/* The same for as many tags as `out` has room for, each in 48 bytes; their count in 8 bytes of `count`. */
+uint32_t nuorpyts_tags(const uint8_t *buffer, size_t buffer_len, const uint8_t *record, size_t record_len, uint8_t *state, size_t state_len, uint8_t *out, size_t out_len, uint8_t *count, size_t count_len);
+
+/* A pair as it is stored: the numbers of its key and its value. */
+#define NUORPYTS_RAW_TAG_SIZE 16u
+#define NUORPYTS_RAW_TAG_KEY 0u
+#define NUORPYTS_RAW_TAG_VAL 8u
+
+/* Finds the next pair of an element's tags, whether it is shown or not, by its numbers alone; so no record is asked for.
+ * Takes: a state, which nuorpyts_start_tags writes for the first call.
+ * Gives: the pair, in 16 bytes of `out`, and the state behind it, in `state`.
+ * 101: the state has ended, or there is no further pair.
+ * Refuses: 14 where a walk's calls do; then 2 and 3 of the two numbers, 12 where there is only one of them, of a dense node 2.
+ * Writes: as a walk's calls do; the ended state is five times 0. */
+uint32_t nuorpyts_raw_tag(const uint8_t *buffer, size_t buffer_len, uint8_t *state, size_t state_len, uint8_t *out, size_t out_len);
+
+/* The same for as many pairs as `out` has room for, each in 16 bytes; their count in 8 bytes of `count`. */
+uint32_t nuorpyts_raw_tags(const uint8_t *buffer, size_t buffer_len, uint8_t *state, size_t state_len, uint8_t *out, size_t out_len, uint8_t *count, size_t count_len);
+
+/* ---- a way's references */
+
+/* The state of a walk over references: four numbers. */
+#define NUORPYTS_REFS_SIZE 32u
+
+/* Writes the state before a way's first reference; of an element that is no way, the ended one.
+ * Takes: the element's 208 bytes as a walk gave them.
+ * Refuses: 14 where `state` is shorter than 32 bytes, which leaves it as it is; then where `element` is shorter than 208, or has a kind
+ * or, for a way's references, a present that is none.
+ * Writes: with 0 the state; with 14, but for a state that is too short, the ended one: four times 0. */
+uint32_t nuorpyts_start_refs(const uint8_t *element, size_t element_len, uint8_t *state, size_t state_len);
+
+/* A reference: the signed id of a node. */
+#define NUORPYTS_REF_SIZE 8u
+
+/* Finds the next reference.
+ * Takes: a state, which nuorpyts_start_refs writes for the first call.
+ * Gives: the reference, in 8 bytes of `out`, and the state behind it, in `state`.
+ * 101: the state has ended, or there is no further reference.
+ * Refuses: 14 where a walk's calls do; then 2 and 3 of the stored number.
+ * Writes: as a walk's calls do; the ended state is four times 0. */
+uint32_t nuorpyts_ref(const uint8_t *buffer, size_t buffer_len, uint8_t *state, size_t state_len, uint8_t *out, size_t out_len);
+
+/* The same for as many references as `out` has room for, each in 8 bytes; their count in 8 bytes of `count`. */
+uint32_t nuorpyts_refs(const uint8_t *buffer, size_t buffer_len, uint8_t *state, size_t state_len, uint8_t *out, size_t out_len, uint8_t *count, size_t count_len);
+
+/* ---- a relation's members */
+
+/* The state of a walk over members: eight numbers. */
+#define NUORPYTS_MEMBERS_SIZE 64u
+
+/* Writes the state before a relation's first member; of an element that is no relation, the ended one.
+ * Takes: the element's 208 bytes as a walk gave them.
+ * Refuses: 14 where `state` is shorter than 64 bytes, which leaves it as it is; then where `element` is shorter than 208, or has a kind
+ * or, for a relation's roles, memids or types, a present that is none.
+ * Writes: with 0 the state; with 14, but for a state that is too short, the ended one: eight times 0. */
+uint32_t nuorpyts_start_members(const uint8_t *element, size_t element_len, uint8_t *state, size_t state_len);
+
+/* A member: the signed number of its role, what it is, the signed number of its type, which is the same but where it is unknown, and its
+ * signed id. */
+#define NUORPYTS_MEMBER_SIZE 32u
+#define NUORPYTS_MEMBER_ROLE 0u
+#define NUORPYTS_MEMBER_CASE 8u
+#define NUORPYTS_MEMBER_TYPE 16u
+#define NUORPYTS_MEMBER_ID 24u
+/* what a member is */
+#define NUORPYTS_MEMBER_NODE 0u
+#define NUORPYTS_MEMBER_WAY 1u
+#define NUORPYTS_MEMBER_RELATION 2u
+#define NUORPYTS_MEMBER_UNKNOWN 3u
+
+/* Finds the next member.
+ * Takes: the record's bytes as nuorpyts_scan gave them, and a state, which nuorpyts_start_members writes for the first call.
+ * Gives: the member, in 32 bytes of `out`, and the state behind it, in `state`.
+ * 101: the state has ended, or there is no further member.
+ * Refuses: 14 where a walk's calls do; then 2 and 3 of role, id and type, and 12 where there are only some of them.
+ * Writes: as a walk's calls do; the ended state is eight times 0. */
+uint32_t nuorpyts_member(const uint8_t *buffer, size_t buffer_len, const uint8_t *record, size_t record_len, uint8_t *state, size_t state_len, uint8_t *out, size_t out_len);
+
+/* The same for as many members as `out` has room for, each in 32 bytes; their count in 8 bytes of `count`. */
+uint32_t nuorpyts_members(const uint8_t *buffer, size_t buffer_len, const uint8_t *record, size_t record_len, uint8_t *state, size_t state_len, uint8_t *out, size_t out_len, uint8_t *count, size_t count_len);
+
+/* Finds the text of a role.
+ * Takes: the record's bytes as nuorpyts_scan gave them, and the role's number, as nuorpyts_read_number reads it from a member.
+ * Gives: where the text stands in the buffer, a range, in 16 bytes of `out`.
+ * 100: the number is negative or not below the record's string count, or its table entry passes the buffer.
+ * Refuses: 14 where `out` is shorter than 16 bytes, the number is no int32, `record` is shorter than 72 or has a granularity that is no
+ * int32, or the range passes the buffer.
+ * Writes: the 16 bytes. */
+uint32_t nuorpyts_role(const uint8_t *buffer, size_t buffer_len, const uint8_t *record, size_t record_len, size_t role, uint8_t *out, size_t out_len);
 
 #ifdef __cplusplus
 }

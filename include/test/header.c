@@ -1,66 +1,11 @@
-/* Holds the header to the library: every function is called through its declaration, every answer has exactly its SIZE, every place holds
- * the one number that stands there, and every code is given by a block that is known to give it. A name, a size, a place or a code that is
- * wrong in the header fails here. C99 and C++11. */
-#include "nuorpyts.h"
+/* Holds the header to the library, but for walks, which walks.c does: every function is called through its declaration, every answer has
+ * exactly its SIZE, every place holds the one number that stands there, and every code is given by a block that is known to give it. A
+ * name, a size, a place or a code that is wrong in the header fails here. C99 and C++11. */
+#include "lent.h"
 
-#include <stdio.h>
 #include <stdlib.h>
-#include <string.h>
 
-#define COUNT(rows) (sizeof(rows) / sizeof *(rows))
-
-/* ---- what is expected */
-
-static unsigned failures;
-static const char *now = "";
-
-static void expect(int holds, const char *what, int line) {
-    if (!holds) {
-        printf("line %d, %s: not %s\n", line, now, what);
-        failures++;
-    }
-}
-#define EXPECT(holds) expect((holds), #holds, __LINE__)
-
-/* ---- bytes that are lent for an answer, with others behind it */
-
-#define ROOM 256u
-
-static uint8_t filling(size_t at) { return (uint8_t)((at * 37 ^ 0xC3) & 0xFF); }
-
-static void fill(uint8_t *bytes) {
-    size_t i;
-    for (i = 0; i < ROOM; i++) {
-        bytes[i] = filling(i);
-    }
-}
-
-static int is_filled(const uint8_t *bytes, size_t from) {
-    size_t i;
-    for (i = from; i < ROOM; i++) {
-        if (bytes[i] != filling(i)) {
-            return 0;
-        }
-    }
-    return 1;
-}
-
-/* A call that answers in `out` and `out_len`: 14 in a byte less than `size`, where no byte changes, and 0 in exactly `size` bytes, behind
- * which none does. */
-#define SIZED(size, call)                    \
-    do {                                     \
-        size_t out_len = (size) - 1;         \
-        fill(out);                           \
-        EXPECT((call) == NUORPYTS_OUTSIDE);  \
-        EXPECT(is_filled(out, 0));           \
-        out_len = (size);                    \
-        EXPECT((call) == NUORPYTS_OK);       \
-        EXPECT(is_filled(out, (size)));      \
-    } while (0)
-
-static int has_range(const uint8_t *out, size_t start, size_t len) {
-    return nuorpyts_read_number(out + NUORPYTS_RANGE_START) == start && nuorpyts_read_number(out + NUORPYTS_RANGE_LENGTH) == len;
-}
+/* ---- parts */
 
 static int has_part(const uint8_t *out, size_t start, size_t len) {
     return nuorpyts_read_number(out + NUORPYTS_PART_PRESENT) == 1 && nuorpyts_read_number(out + NUORPYTS_PART_START) == start &&
@@ -591,8 +536,5 @@ int main(void) {
     visible();
     dense();
     messages();
-    if (failures > 0) {
-        printf("%u expectations about include/nuorpyts.h do not hold\n", failures);
-    }
-    return failures > 0;
+    return expected();
 }

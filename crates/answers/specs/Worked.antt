@@ -23,7 +23,7 @@ use Rattle.groups.specs.declared.group.MessagePlace.{MessagePlace}
 use Rattle.groups.specs.declared.group.WireMessageIter.the-variants as iter
 use Rattle.groups.specs.Group.{firstPart, messageAt}
 use Rattle.answers.specs.declared.group.MessagesIn.the-variants as slot
-use Rattle.answers.specs.Words.{words, filled, signedWord}
+use Rattle.answers.specs.Words.{words, filled, filledAt, signedWord}
 use Rattle.answers.specs.Codes.{noneCode, endedCode, codeOf, answerCode, answerAfter}
 use Rattle.answers.specs.Record.{recordWords, recordIn}
 use Rattle.answers.specs.Group.{partWords, rangeWords, kindWords, iterWords, messagesIn}
@@ -89,6 +89,9 @@ pub record Worked : Type 0 where
   pub filled-front : filled (blank 17) (1 ∷ 2 ∷ []) ≡ words (1 ∷ 2 ∷ []) ++ (0xEE ∷ [])
   pub filled-whole : filled (blank 16) (1 ∷ 2 ∷ []) ≡ words (1 ∷ 2 ∷ [])
   pub filled-short : filled (blank 15) (1 ∷ 2 ∷ []) ≡ blank 15
+  -- or from a place on
+  pub filled-there : filledAt (blank 19) 2 (1 ∷ 2 ∷ []) ≡ blank 2 ++ (words (1 ∷ 2 ∷ []) ++ (0xEE ∷ []))
+  pub filled-past-the-end : filledAt (blank 17) 2 (1 ∷ 2 ∷ []) ≡ blank 17
   -- codes: 0, a refusal's number, and 14 first where the answer's slice is too short; the answer is written with 0 alone
   pub code-none : noneCode ≡ 100
   pub code-ended : endedCode ≡ 101
@@ -164,6 +167,8 @@ worked =
       filled-front = refl;
       filled-whole = refl;
       filled-short = refl;
+      filled-there = refl;
+      filled-past-the-end = refl;
       code-none = refl;
       code-ended = refl;
       code-success = refl;

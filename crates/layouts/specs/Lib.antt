@@ -1,3 +1,4 @@
--- The numbers of each view's answer, as they pass through C.
+-- The numbers of each view's answer and of an element, as they pass through C.
 pub mod Views
+pub mod Element
 pub mod Worked

@@ -1,6 +1,7 @@
 -- One file of laws for each subject.
 pub mod Block
 pub mod Group
+pub mod Walks
 pub mod Scanned
 pub mod Check
 pub mod ScanLeft

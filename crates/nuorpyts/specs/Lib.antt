@@ -2,4 +2,5 @@
 pub mod Block
 pub mod Group
 pub mod Check
+pub mod Walks
 pub mod Worked

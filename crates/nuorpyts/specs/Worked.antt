@@ -7,7 +7,7 @@ use lib.ListN.{take, replicate}
 use Rattle.protobuf.specs.declared.refusal.Refusal.the-variants.{Outside}
 use Rattle.protobuf.specs.Read.{andThen}
 use Rattle.numbers.specs.Little.{little, bytes, numberAt}
-use Rattle.numbers.specs.Signed.{signed, twos}
+use Rattle.numbers.specs.Signed.{signed, twos, residue, wrap}
 use Rattle.protobuf.specs.Varint.{digits, varint}
 use Rattle.protobuf.specs.Tag.{legal, tag, tagAt}
 use Rattle.message.specs.Payload.{rawVarint, fixed, counted, lengthDelimited, valueBy, fieldIn, fieldsOf, groupBy, payload}
@@ -18,9 +18,10 @@ use Rattle.fields.specs.Part.{partBy}
 use Rattle.fields.specs.Parts.{partsOf, messagesOf}
 use Rattle.fields.specs.View.{columnPart, infoPart, put, store, viewFrom, view}
 use Rattle.lookup.specs.declared.by_number.Got.the-variants as got
+use Rattle.wire.specs.Block.{lastOf, chosenTable}
 use Rattle.wire.specs.Tables.{entries}
 use Rattle.wire.specs.Scan.{tablesStage, stringsStage, fieldsStage, scanned}
-use Rattle.lookup.specs.Lookup.{getAt, groupAt}
+use Rattle.lookup.specs.Lookup.{getAt, groupAt, stringParts}
 use Rattle.groups.specs.declared.classify.BlockType.the-variants.{Empty, Nodes, DenseNodes}
 use Rattle.groups.specs.Classify.{blockType}
 use Rattle.groups.specs.Group.{denseFrom}
@@ -31,6 +32,7 @@ use Rattle.answers.specs.Record.{recordIn}
 use Rattle.nuorpyts.specs.Block.{scanAfter, getIn, gotCode, gotAfter, groupIn}
 use Rattle.nuorpyts.specs.Group.{kindIn}
 use Rattle.nuorpyts.specs.Check.{checkCode}
+use Rattle.nuorpyts.specs.Walks.{roleIn, ownRole, nanoIn}
 
 -- a slice of n bytes that nothing was written to
 abbrev blank : ℕ → List ℕ
@@ -52,6 +54,14 @@ buffer = 0x0A ∷ 0x01 ∷ 0x12 ∷ 0x00 ∷ (entry 1 2 ++ (entry 3 34 ++ (entry
 
 abbrev rec : List ℕ
 rec = recordBytes 4 2 4 2 20
+
+-- a block of one string, of one byte
+abbrev named : List ℕ
+named = 0x0A ∷ 0x03 ∷ 0x0A ∷ 0x01 ∷ 0x61 ∷ []
+
+-- a record of granularity 10, with offsets 3 and −4
+abbrev shifted : List ℕ
+shifted = words (0 ∷ 0 ∷ 0 ∷ 0 ∷ 0 ∷ 10 ∷ 1000 ∷ 3 ∷ 0xFFFFFFFFFFFFFFFC ∷ [])
 
 pub record Worked : Type 0 where
   -- a scan writes the tables right behind the block, where there is room for the record
@@ -85,9 +95,31 @@ pub record Worked : Type 0 where
   pub check-refuses : checkCode (0x12 ∷ 0x04 ∷ 0x12 ∷ 0x00 ∷ 0x12 ∷ 0x00 ∷ entry 2 4) (recordBytes 6 0 6 1 6) ≡ 11
   pub check-outside : checkCode [] (recordBytes 1 0 0 0 0) ≡ 14
   pub check-no-record : checkCode [] (take 71 (recordBytes 0 0 0 0 0)) ≡ 14
+  -- the text of a role, whose number is an int32 as its two's complement at 64 bits
+  pub role-text : roleIn buffer rec 0 ≡ got.Text (partBy 1 2)
+  pub role-outside : roleIn buffer rec 1 ≡ got.Refused Outside
+  pub role-none : roleIn buffer rec 2 ≡ got.None
+  pub role-greatest : roleIn buffer rec 0x7FFFFFFF ≡ got.None
+  pub role-above : roleIn buffer rec 0x80000000 ≡ got.Refused Outside
+  pub role-wide : roleIn buffer rec 0x100000000 ≡ got.Refused Outside
+  pub role-minus-one : roleIn buffer rec 0xFFFFFFFFFFFFFFFF ≡ got.None
+  pub role-least : roleIn buffer rec 0xFFFFFFFF80000000 ≡ got.None
+  pub role-below : roleIn buffer rec 0xFFFFFFFF7FFFFFFF ≡ got.Refused Outside
+  pub role-no-record : roleIn buffer (take 71 rec) 0 ≡ got.Refused Outside
+  pub role-no-record-first : roleIn buffer (take 71 rec) 0xFFFFFFFFFFFFFFFF ≡ got.Refused Outside
+  pub own-role-text : ownRole named 0 ≡ got.Text (partBy 4 1)
+  pub own-role-none : ownRole named 1 ≡ got.None
+  pub own-role-minus-one : ownRole named 0xFFFFFFFFFFFFFFFF ≡ got.None
+  pub own-role-wide : ownRole named 0x100000000 ≡ got.Refused Outside
+  -- positions, by the record's granularity and its two offsets
+  pub nano-scaled : nanoIn rec 5 7 ≡ kept (500 ∷ 700 ∷ [])
+  pub nano-offsets : nanoIn shifted 1 1 ≡ kept (13 ∷ 6 ∷ [])
+  pub nano-negative : nanoIn shifted 0xFFFFFFFFFFFFFFFF 0 ≡ kept (0xFFFFFFFFFFFFFFF9 ∷ 0xFFFFFFFFFFFFFFFC ∷ [])
+  pub nano-wraps : nanoIn rec 0x7FFFFFFFFFFFFFFF 0x4000000000000001 ≡ kept (0xFFFFFFFFFFFFFF9C ∷ 100 ∷ [])
+  pub nano-no-record : nanoIn (take 71 rec) 5 7 ≡ refused Outside
 
 pub worked : Worked
-unfolding little bytes numberAt columnPart infoPart put store viewFrom view entries tablesStage stringsStage fieldsStage scanned signed twos andThen digits varint legal tag tagAt rawVarint fixed counted lengthDelimited valueBy fieldIn fieldsOf groupBy payload unrolled fieldAt messageFrom onward each partsOf messagesOf getAt groupAt blockType denseFrom all checkGroup partsAt checkedIn words recordIn kindIn
+unfolding little bytes numberAt columnPart infoPart put store viewFrom view entries tablesStage stringsStage fieldsStage scanned signed twos residue wrap andThen digits varint legal tag tagAt rawVarint fixed counted lengthDelimited valueBy fieldIn fieldsOf groupBy payload unrolled fieldAt messageFrom onward each partsOf messagesOf lastOf chosenTable getAt groupAt stringParts blockType denseFrom all checkGroup partsAt checkedIn words recordIn kindIn
 worked =
     record {
       scan-tables = refl;
@@ -117,4 +149,24 @@ worked =
       check-refuses = refl;
       check-outside = refl;
       check-no-record = refl;
+      role-text = refl;
+      role-outside = refl;
+      role-none = refl;
+      role-greatest = refl;
+      role-above = refl;
+      role-wide = refl;
+      role-minus-one = refl;
+      role-least = refl;
+      role-below = refl;
+      role-no-record = refl;
+      role-no-record-first = refl;
+      own-role-text = refl;
+      own-role-none = refl;
+      own-role-minus-one = refl;
+      own-role-wide = refl;
+      nano-scaled = refl;
+      nano-offsets = refl;
+      nano-negative = refl;
+      nano-wraps = refl;
+      nano-no-record = refl;
     }

@@ -4,3 +4,6 @@ pub mod blocks;
 pub mod check;
 pub mod group;
 pub mod messages;
+pub mod positions;
+pub mod sub_walks;
+pub mod walks;

@@ -1,8 +1,5 @@
 -- One file of laws for each subject.
 pub mod Inside
-pub mod Dense
-pub mod Viewed
-pub mod Loose
 pub mod Ahead
 pub mod Quiet
 pub mod Enter

@@ -1,10 +1,10 @@
--- The moves of a walk that hand out nothing: what the state that one comes to has ahead, that it is inside, and that it is nearer to the
--- walk's end.
+-- One turn of a walk: a move that hands out nothing, or something to say. Of a move: what the state that it comes to has ahead, that it is
+-- inside, and that it is nearer to the walk's end.
 use Prim.Native.Nat.{ℕ, _+_, _-_, _*_}
 use mathlib.Core.Path.{_≡_}
 use mathlib.Core.List.{List}
 use mathlib.Core.Bool.{Bool, true}
-use lib.Dec.{leb, ltb}
+use lib.Dec.{ltb}
 use Rattle.protobuf.specs.Column.{Column}
 use Rattle.protobuf.specs.declared.refusal.Refusal.{Refusal}
 use Rattle.fields.specs.Outcome.{each}
@@ -14,28 +14,23 @@ use Rattle.fields.specs.Schema.{denseNodes, denseInfo}
 use Rattle.views.specs.DenseNodes.{denseNodesAt}
 use Rattle.views.specs.DenseInfo.{denseInfoAt}
 use Rattle.wire.specs.declared.record.WireBlock.{WireBlock}
-use Rattle.block.specs.Infos as infos
+use Rattle.elements.specs.declared.element.Element.{Element}
 use Rattle.columns.specs.Inside.{also}
-use Rattle.walk.specs.declared.dense_nodes.InfoRow.the-variants as info
-use Rattle.walk.specs.declared.dense_nodes.FullDenseStep.the-variants as full
-use Rattle.walk.specs.declared.state.GroupRangeAt.{GroupRangeAt}
-use Rattle.walk.specs.declared.state.Loose.{Loose}
-use Rattle.walk.specs.declared.state.Loose.the-variants as kind
-use Rattle.walk.specs.declared.state.Messages.{Messages}
+use Rattle.kinds.specs.declared.state.GroupRangeAt.{GroupRangeAt}
+use Rattle.kinds.specs.declared.state.Loose.{Loose}
+use Rattle.kinds.specs.declared.state.Loose.the-variants as kind
+use Rattle.kinds.specs.declared.state.Messages.{Messages}
 use Rattle.walk.specs.declared.state.BlockElementsIter.{BlockElementsIter}
 use Rattle.walk.specs.declared.state.BlockElementsIter.the-variants as walk
-use Rattle.walk.specs.declared.steps.Quiet.{Quiet}
-use Rattle.walk.specs.declared.steps.Quiet.the-variants as quiet
-use Rattle.walk.specs.declared.moves.Entered.{Entered}
-use Rattle.walk.specs.declared.moves.Entered.the-variants as entered
-use Rattle.walk.specs.declared.settle.Settled.{Settled}
-use Rattle.walk.specs.declared.settle.Settled.the-variants as settled
-use Rattle.walk.specs.State.{denseInside, stateInside}
-use Rattle.walk.specs.Walk.{Found, _then_, behind, messagesOf, fromFullDense, infosStart, enterDense, groupsBehind, elementsBy, elementSaid, elementBehind}
+use Rattle.walk.specs.declared.turns.Turn.{Turn}
+use Rattle.walk.specs.declared.turns.Turn.the-variants as turn
+use Rattle.walk.specs.declared.turns.Move.{Move}
+use Rattle.walk.specs.State.{stateInside}
+use Rattle.walk.specs.Walk.{Found, _then_, behind, messagesOf, fromFullDense, infosStart, enterDense, groupsBehind, elementsBy, saidThen, behindSaid}
 use Rattle.walk.specs.declared.state.DenseNodeIter.{DenseNodeIter}
 use Rattle.walk.specs.declared.state.FullDenseNodeIter.{FullDenseNodeIter}
 use Rattle.walk.specs.declared.block_elements.ElementStep.{ElementStep}
-use Rattle.walk.specs.declared.block_elements.ElementStep.the-variants as says
+use Rattle.walk.specs.declared.block_elements.Said.the-variants as says
 
 abbrev pub endedWalk : BlockElementsIter
 endedWalk = walk.Ended
@@ -71,32 +66,55 @@ behindKind full of kind.Nodes = beforeKind full of kind.Ways
 behindKind full of kind.Ways = beforeKind full of kind.Relations
 behindKind full of kind.Relations = walk.Between (record { full = full; group = of .group + 1 })
 
+-- a move to a state, in silence; the walk's end, and its refusal
+abbrev pub movesTo : BlockElementsIter → Move
+movesTo w = record { turn = turn.Moves; next = w }
+
+abbrev pub movesOut : Move
+movesOut = record { turn = turn.Says says.Ended; next = walk.Ended }
+
+abbrev pub movesRefused : Refusal → Move
+movesRefused n = record { turn = turn.Says (says.Refused n); next = walk.Ended }
+
+-- an element, with the state behind it
+abbrev pub movesWith : ℕ → Part → Element → BlockElementsIter → Move
+movesWith group message element w = record { turn = turn.Says (says.Element group message element); next = w }
+
 -- what a move says is what the state that it comes to has ahead
-abbrev pub quietSaid : List ℕ → WireBlock → Quiet → Column Found
-quietSaid s r (quiet.Moved w) = elementsBy s r w
-quietSaid s r (quiet.Says e) = elementSaid s r e
+abbrev pub turnSaid : List ℕ → WireBlock → Turn → BlockElementsIter → Column Found
+turnSaid s r turn.Moves w = elementsBy s r w
+turnSaid s r (turn.Says e) w = saidThen s r e w
 
 -- that state is inside, and nearer to the end than n
-abbrev pub quietOn : List ℕ → WireBlock → ℕ → Quiet → Bool
-quietOn s r n (quiet.Moved w) = also (stateInside s r w) (ltb (left r w) n)
-quietOn s r n (quiet.Says e) = true
+abbrev pub turnOn : List ℕ → WireBlock → ℕ → Turn → BlockElementsIter → Bool
+turnOn s r n turn.Moves w = also (stateInside s r w) (ltb (left r w) n)
+turnOn s r n (turn.Says e) w = true
 
-abbrev pub quietBehind : Quiet → BlockElementsIter
-quietBehind (quiet.Moved w) = walk.Ended
-quietBehind (quiet.Says e) = elementBehind e
+abbrev pub turnBehind : Turn → BlockElementsIter → BlockElementsIter
+turnBehind turn.Moves w = walk.Ended
+turnBehind (turn.Says e) w = behindSaid e w
 
 -- a move of a walk that has c ahead and is n from its end
-pub record Quietly (s : List ℕ) (r : WireBlock) (n : ℕ) (c : Column Found) (q : Quiet) : Type 0 where
-  pub says : quietSaid s r q ≡ c
-  pub on : quietOn s r n q ≡ true
-  pub behind : quietBehind q ≡ walk.Ended
+pub record Quietly (s : List ℕ) (r : WireBlock) (n : ℕ) (c : Column Found) (q : Move) : Type 0 where
+  pub says : turnSaid s r (q .turn) (q .next) ≡ c
+  pub on : turnOn s r n (q .turn) (q .next) ≡ true
+  pub behind : turnBehind (q .turn) (q .next) ≡ walk.Ended
 
--- the end and a refusal, behind which the walk has ended
-abbrev pub endedStep : ElementStep
-endedStep = says.Ended walk.Ended
+-- what a turn of a state comes nearer than: the state itself, but for plain dense nodes, which stay
+abbrev pub turnsWithin : WireBlock → BlockElementsIter → ℕ
+turnsWithin r walk.Ended = left r walk.Ended
+turnsWithin r (walk.Between b) = left r (walk.Between b)
+turnsWithin r (walk.DenseNodes d) = left r (walk.DenseNodes d) + 1
+turnsWithin r (walk.FullDenseNodes d) = left r (walk.FullDenseNodes d)
+turnsWithin r (walk.Messages m) = left r (walk.Messages m)
 
+-- one turn of a state
+abbrev pub Turns : List ℕ → WireBlock → BlockElementsIter → Move → Type 0
+Turns s r w q = Quietly s r (turnsWithin r w) (elementsBy s r w) q
+
+-- a step that refuses, behind which the walk has ended
 abbrev pub refusedStep : Refusal → ElementStep
-refusedStep n = says.Refused n walk.Ended
+refusedStep n = record { said = says.Refused n; next = walk.Ended }
 
 -- what is ahead at a group's dense message, and at its DenseInfo in a full walk
 abbrev pub atDense : Bool → List ℕ → WireBlock → GroupRangeAt → Part → Column Found
@@ -106,32 +124,3 @@ atDense full s r of message =
 abbrev pub atInfos : List ℕ → WireBlock → DenseNodeIter → Part → Column Found
 atInfos s r nodes info =
     behind (each (denseInfoAt (info .start)) (viewIn denseInfo s (info .start) (info .len))) (λ i. fromFullDense s (record { nodes = nodes; infos = infosStart i })) then groupsBehind true s r (nodes .of)
-
--- the same of a way into a group
-abbrev pub enteredAs : Entered → Quiet
-enteredAs (entered.Moved w) = quiet.Moved w
-enteredAs entered.Ended = quiet.Says endedStep
-enteredAs (entered.Refused n) = quiet.Says (refusedStep n)
-
-abbrev pub Enters : List ℕ → WireBlock → ℕ → Column Found → Entered → Type 0
-Enters s r n c e = Quietly s r n c (enteredAs e)
-
--- ---- moves until the walk is among plain dense nodes or says something
-
-abbrev pub settledSaid : List ℕ → WireBlock → Settled → Column Found
-settledSaid s r (settled.Dense d) = elementsBy s r (walk.DenseNodes d)
-settledSaid s r (settled.Says e) = elementSaid s r e
-
-abbrev pub settledOn : List ℕ → WireBlock → ℕ → Settled → Bool
-settledOn s r n (settled.Dense d) = also (denseInside s r d) (leb (left r (walk.DenseNodes d)) n)
-settledOn s r n (settled.Says e) = true
-
-abbrev pub settledBehind : Settled → BlockElementsIter
-settledBehind (settled.Dense d) = walk.Ended
-settledBehind (settled.Says e) = elementBehind e
-
--- a walk that was in state w
-pub record Settles (s : List ℕ) (r : WireBlock) (w : BlockElementsIter) (q : Settled) : Type 0 where
-  pub says : settledSaid s r q ≡ elementsBy s r w
-  pub on : settledOn s r (left r w) q ≡ true
-  pub behind : settledBehind q ≡ walk.Ended

@@ -8,7 +8,6 @@ use mathlib.Core.Option.{Option, none, some}
 use mathlib.Core.Bool.{Bool, true, false}
 use lib.Dec.{eqb}
 use lib.IntN.{ℤ, pos, negsuc}
-use Rattle.numbers.specs.Choose.{choose}
 use Rattle.protobuf.specs.Stream.{end, more}
 use Rattle.protobuf.specs.Column.{ended, cut, Column}
 use Rattle.fields.specs.Outcome.{Outcome, kept, refused, onward}

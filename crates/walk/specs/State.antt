@@ -5,10 +5,9 @@ use mathlib.Core.List.{List}
 use mathlib.Core.Bool.{Bool, true}
 use lib.ListN.{length}
 use lib.Dec.{leb, ltb}
-use Rattle.fields.specs.Part.{isInside}
 use Rattle.wire.specs.declared.record.WireBlock.{WireBlock}
 use Rattle.columns.specs.Inside.{also, columnInside, rowsInside, infosInside}
-use Rattle.walk.specs.declared.state.GroupRangeAt.{GroupRangeAt}
+use Rattle.kinds.specs.declared.state.GroupRangeAt.{GroupRangeAt}
 use Rattle.walk.specs.declared.state.DenseNodeIter.{DenseNodeIter}
 use Rattle.walk.specs.declared.state.BlockElementsIter.{BlockElementsIter}
 use Rattle.walk.specs.declared.state.BlockElementsIter.the-variants as walk
@@ -18,7 +17,7 @@ groupInside s r of = also (ltb (of .group) (r .groups)) (leb (of .start + of .le
 
 abbrev pub denseInside : List ℕ → WireBlock → DenseNodeIter → Bool
 denseInside s r d =
-    also (groupInside s r (d .of)) (also (isInside s (d .message)) (also (rowsInside s (d .columns .rows)) (columnInside s (d .columns .keyvals))))
+    also (groupInside s r (d .of)) (also (leb (d .message .start + d .message .len) (length s)) (also (rowsInside s (d .columns .rows)) (columnInside s (d .columns .keyvals))))
 
 abbrev pub stateInside : List ℕ → WireBlock → BlockElementsIter → Bool
 stateInside s r walk.Ended = true

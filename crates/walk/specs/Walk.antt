@@ -10,7 +10,7 @@ use Rattle.protobuf.specs.Stream.{end, more, mapped}
 use Rattle.protobuf.specs.Column.{ended, cut, Column}
 use Rattle.fields.specs.declared.part.Part.{Part}
 use Rattle.fields.specs.Outcome.{Outcome, kept, refused, each}
-use Rattle.fields.specs.Part.{moved}
+use Rattle.fields.specs.Part.{partBy, moved}
 use Rattle.fields.specs.View.{viewIn}
 use Rattle.fields.specs.Schema.{denseNodes, denseInfo}
 use Rattle.views.specs.declared.dense_nodes.WireDenseNodes.{WireDenseNodes}
@@ -28,18 +28,20 @@ use Rattle.columns.specs.declared.sums.Sum32.{Sum32}
 use Rattle.columns.specs.declared.zip.RowColumns.{RowColumns}
 use Rattle.columns.specs.InStep.{startOf}
 use Rattle.elements.specs.Element.{DenseItem, Item, denseItem, itemOf}
-use Rattle.walk.specs.declared.state.GroupRangeAt.{GroupRangeAt}
+use Rattle.kinds.specs.declared.state.GroupRangeAt.{GroupRangeAt}
+use Rattle.walk.specs.declared.state.Range.{Range}
 use Rattle.walk.specs.declared.state.DenseNodeIter.{DenseNodeIter}
 use Rattle.walk.specs.declared.state.FullDenseNodeIter.{FullDenseNodeIter}
-use Rattle.walk.specs.declared.state.Loose.{Loose}
-use Rattle.walk.specs.declared.state.Loose.the-variants as kind
-use Rattle.walk.specs.declared.state.Messages.{Messages}
+use Rattle.kinds.specs.declared.state.Loose.{Loose}
+use Rattle.kinds.specs.declared.state.Loose.the-variants as kind
+use Rattle.kinds.specs.declared.state.Messages.{Messages}
 use Rattle.walk.specs.declared.state.BlockElementsIter.{BlockElementsIter}
 use Rattle.walk.specs.declared.state.BlockElementsIter.the-variants as walk
+use Rattle.walk.specs.declared.block_elements.Said.{Said}
+use Rattle.walk.specs.declared.block_elements.Said.the-variants as says
 use Rattle.walk.specs.declared.block_elements.ElementStep.{ElementStep}
-use Rattle.walk.specs.declared.block_elements.ElementStep.the-variants as step
-use Rattle.walk.specs.Dense.{denseAhead, fullDenseAhead}
-use Rattle.walk.specs.Loose.{Placed, looseAhead}
+use Rattle.kinds.specs.Dense.{denseAhead, fullDenseAhead}
+use Rattle.kinds.specs.Loose.{Placed, looseAhead}
 use Rattle.walk.specs.State.{stateInside}
 
 -- an element with its group's number and its message's part
@@ -89,14 +91,18 @@ fromKind s kind.Relations m = fromRelations s m
 abbrev pub denseFound : ℕ → Part → DenseItem → Found
 denseFound group message d = record { group = group; message = message; item = denseItem d }
 
+-- the part that a state's range stands for
+abbrev pub partOf : Range → Part
+partOf range = partBy (range .start) (range .len)
+
 -- dense nodes, and then the group's messages
 abbrev pub fromDense : List ℕ → DenseNodeIter → Column Found
 fromDense s d =
-    mapped (denseFound (d .of .group) (d .message)) (denseAhead s (d .columns)) then fromNodes s (messagesOf false (d .of) kind.Nodes)
+    mapped (denseFound (d .of .group) (partOf (d .message))) (denseAhead s (d .columns)) then fromNodes s (messagesOf false (d .of) kind.Nodes)
 
 abbrev pub fromFullDense : List ℕ → FullDenseNodeIter → Column Found
 fromFullDense s d =
-    mapped (denseFound (d .nodes .of .group) (d .nodes .message)) (fullDenseAhead s (d .nodes .columns) (d .infos)) then fromNodes s (messagesOf true (d .nodes .of) kind.Nodes)
+    mapped (denseFound (d .nodes .of .group) (partOf (d .nodes .message))) (fullDenseAhead s (d .nodes .columns) (d .infos)) then fromNodes s (messagesOf true (d .nodes .of) kind.Nodes)
 
 -- ---- into a group
 
@@ -121,7 +127,7 @@ infosStart v =
     }
 
 abbrev pub denseStart : GroupRangeAt → Part → WireDenseNodes → DenseNodeIter
-denseStart of message v = record { of = of; message = message; columns = record { rows = rowsStart v; keyvals = startOf (v .keyvals) } }
+denseStart of message v = record { of = of; message = record { start = message .start; len = message .len }; columns = record { rows = rowsStart v; keyvals = startOf (v .keyvals) } }
 
 -- a dense message: DenseInfo is read here in a full walk, and not at all in a plain one
 abbrev pub enterDense : Bool → List ℕ → GroupRangeAt → Part → WireDenseNodes → Column Found
@@ -174,16 +180,22 @@ elementsFrom s r (walk.Messages m) = testedFrom s r (walk.Messages m)
 
 -- ---- what a step says, followed by what its next state has ahead
 
+abbrev pub saidThen : List ℕ → WireBlock → Said → BlockElementsIter → Column Found
+saidThen s r (says.Element group message element) next = more (record { group = group; message = message; item = itemOf s element }) (elementsFrom s r next)
+saidThen s r says.Ended next = end ended
+saidThen s r (says.Refused n) next = end (cut n)
+
 abbrev pub elementSaid : List ℕ → WireBlock → ElementStep → Column Found
-elementSaid s r (step.Element group message element next) = more (record { group = group; message = message; item = itemOf s element }) (elementsFrom s r next)
-elementSaid s r (step.Ended next) = end ended
-elementSaid s r (step.Refused n next) = end (cut n)
+elementSaid s r a = saidThen s r (a .said) (a .next)
 
 -- the state behind an answer that hands out nothing is the ended one
+abbrev pub behindSaid : Said → BlockElementsIter → BlockElementsIter
+behindSaid (says.Element group message element) next = walk.Ended
+behindSaid says.Ended next = next
+behindSaid (says.Refused n) next = next
+
 abbrev pub elementBehind : ElementStep → BlockElementsIter
-elementBehind (step.Element group message element next) = walk.Ended
-elementBehind (step.Ended next) = next
-elementBehind (step.Refused r next) = next
+elementBehind a = behindSaid (a .said) (a .next)
 
 -- ---- a walk at its start
 

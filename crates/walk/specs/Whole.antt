@@ -35,9 +35,10 @@ use Rattle.elements.specs.Members.{membersFrom, memberSaid, memberBehind, membe
 use Rattle.elements.specs.Element.{itemOf}
 use Rattle.walk.specs.declared.state.BlockElementsIter.{BlockElementsIter}
 use Rattle.walk.specs.declared.state.BlockElementsIter.the-variants as walk
+use Rattle.walk.specs.declared.block_elements.Said.{Said}
+use Rattle.walk.specs.declared.block_elements.Said.the-variants as says
 use Rattle.walk.specs.declared.block_elements.ElementStep.{ElementStep}
-use Rattle.walk.specs.declared.block_elements.ElementStep.the-variants as step
-use Rattle.walk.specs.Walk.{Found, elementsFrom, elementSaid, elementBehind, fresh}
+use Rattle.walk.specs.Walk.{elementsFrom, elementSaid, elementBehind, fresh}
 use Rattle.walk.specs.Shows.{TagShows, textOf, idOf, kindOf, itemId, positionOf}
 use Rattle.walk.specs.Run.{Run, Says, gives, over, refuses, Hands}
 
@@ -77,15 +78,16 @@ pub record Handed : Type 0 where
   pub group : ℕ
   pub element : handed.Element
 
+abbrev pub saidTold : Said → Says Handed
+saidTold (says.Element group message element) = gives (record { group = group; element = element })
+saidTold says.Ended = over
+saidTold (says.Refused r) = refuses r
+
 abbrev pub elementTold : ElementStep → Says Handed
-elementTold (step.Element group message element next) = gives (record { group = group; element = element })
-elementTold (step.Ended next) = over
-elementTold (step.Refused r next) = refuses r
+elementTold a = saidTold (a .said)
 
 abbrev pub afterStep : ElementStep → BlockElementsIter
-afterStep (step.Element group message element next) = next
-afterStep (step.Ended next) = next
-afterStep (step.Refused r next) = next
+afterStep a = a .next
 
 abbrev pub tagTold : TagIterStep → Says Tag
 tagTold (tag.Tag t next) = gives t

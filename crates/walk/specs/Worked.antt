@@ -37,12 +37,13 @@ use Rattle.elements.specs.Tags.{pairBy, pairsOf}
 use Rattle.elements.specs.Element.{RowInfo, unread, row, Item, denseItem, nodeItem, wayItem, relationItem}
 use Rattle.walk.specs.declared.state.BlockElementsIter.{BlockElementsIter}
 use Rattle.walk.specs.declared.state.BlockElementsIter.the-variants as walk
-use Rattle.walk.specs.declared.state.Loose.{Loose}
-use Rattle.walk.specs.declared.state.Loose.the-variants as kind
+use Rattle.walk.specs.declared.state.Range.{Range}
+use Rattle.kinds.specs.declared.state.Loose.{Loose}
+use Rattle.kinds.specs.declared.state.Loose.the-variants as kind
 use Rattle.walk.specs.declared.state.DenseNodeIter.{DenseNodeIter}
-use Rattle.walk.specs.Dense.{nodesOf}
-use Rattle.walk.specs.Loose.{viewedAll}
-use Rattle.walk.specs.Walk.{Found, _then_, groupsFrom, testedFrom, elementsFrom, fresh}
+use Rattle.kinds.specs.Dense.{nodesOf}
+use Rattle.kinds.specs.Loose.{viewedAll}
+use Rattle.walk.specs.Walk.{_then_, Found, groupsFrom, testedFrom, elementsFrom, fresh}
 use Rattle.walk.specs.Shows.{referencesOf}
 use Rattle.walk.specs.Run.{Says, gives, over, refuses, Hands, hands-one, hands-end}
 
@@ -149,6 +150,9 @@ noValue = 0x12 ∷ 0x0C ∷ 0x0A ∷ 0x01 ∷ 0x02 ∷ 0x42 ∷ 0x01 ∷ 0x02 �
 abbrev among : ℕ → Loose → ℕ → BlockElementsIter
 among group which at = walk.Messages (record { full = false; of = record { group = group; start = 0; len = 59 }; kind = which; at = at })
 
+abbrev range : ℕ → ℕ → Range
+range start len = record { start = start; len = len }
+
 abbrev column : ℕ → ℕ → State
 column at to = record { at = at; end = to }
 
@@ -156,7 +160,7 @@ abbrev sum : State → Sum64
 sum c = record { column = c; sum = pos 0 }
 
 -- dense nodes of a group by its number and length, with columns that have ended
-abbrev dense : ℕ → ℕ → Part → DenseNodeIter
+abbrev dense : ℕ → ℕ → Range → DenseNodeIter
 dense group len message =
     record {
       of = record { group = group; start = 59; len = len };
@@ -170,7 +174,7 @@ denseBy ids lats lons keyvals =
     walk.DenseNodes
     (record {
       of = record { group = 1; start = 59; len = 4 };
-      message = noPart;
+      message = range 0 0;
       columns = record { rows = record { ids = sum ids; lats = sum lats; lons = sum lons }; keyvals = keyvals };
     })
 
@@ -178,7 +182,7 @@ abbrev stamped : ℕ → State → State → State → BlockElementsIter
 stamped group version uid visible =
     walk.FullDenseNodes
     (record {
-      nodes = dense group 4 noPart;
+      nodes = dense group 4 (range 0 0);
       infos =
           record {
             version = version;
@@ -227,10 +231,10 @@ pub record Worked : Type 0 where
   pub behind-the-groups-end : from (among 0 kind.Relations 60) ≡ end (cut Outside)
   pub no-such-group : from (among 2 kind.Relations 59) ≡ end (cut Outside)
   pub range-outside : from (walk.Messages (record { full = false; of = record { group = 0; start = 0; len = 80 }; kind = kind.Relations; at = 59 })) ≡ end (cut Outside)
-  pub nodes-ended : from (walk.DenseNodes (dense 1 4 noPart)) ≡ last
-  pub nodes-of-no-group : from (walk.DenseNodes (dense 2 4 noPart)) ≡ end (cut Outside)
-  pub nodes-range-outside : from (walk.DenseNodes (dense 1 21 noPart)) ≡ end (cut Outside)
-  pub message-outside : from (walk.DenseNodes (dense 1 4 (partBy 79 1))) ≡ end (cut Outside)
+  pub nodes-ended : from (walk.DenseNodes (dense 1 4 (range 0 0))) ≡ last
+  pub nodes-of-no-group : from (walk.DenseNodes (dense 2 4 (range 0 0))) ≡ end (cut Outside)
+  pub nodes-range-outside : from (walk.DenseNodes (dense 1 21 (range 0 0))) ≡ end (cut Outside)
+  pub message-outside : from (walk.DenseNodes (dense 1 4 (range 79 1))) ≡ end (cut Outside)
   pub ids-outside : from (denseBy (column 1 0) (column 0 0) (column 0 0) (column 0 0)) ≡ end (cut Outside)
   pub lats-outside : from (denseBy (column 0 0) (column 79 80) (column 0 0) (column 0 0)) ≡ end (cut Outside)
   pub lons-outside : from (denseBy (column 0 0) (column 0 0) (column 79 80) (column 0 0)) ≡ end (cut Outside)
@@ -246,7 +250,7 @@ pub record Worked : Type 0 where
   pub behind-the-way : from (among 0 kind.Ways 11) ≡ theRelation
   pub among-relations : from (among 0 kind.Relations 0) ≡ theRelation
   -- and then the groups behind, where dense nodes have ended as well
-  pub groups-behind-nodes : from (walk.DenseNodes (dense 0 4 noPart)) ≡ theWayTwice
+  pub groups-behind-nodes : from (walk.DenseNodes (dense 0 4 (range 0 0))) ≡ theWayTwice
   pub groups-behind-infos : from (stamped 0 (column 0 0) (column 0 0) (column 0 0)) ≡ theWayTwice
   -- a wire error ends the messages of a kind quietly, where a state is among them
   pub quiet-at-a-wire-error : elementsFrom (0x1A ∷ 0x05 ∷ entry 0 2) (place 2 1 2) (walk.Messages (record { full = false; of = record { group = 0; start = 0; len = 2 }; kind = kind.Ways; at = 0 })) ≡ end ended

@@ -3,11 +3,11 @@ ghost use mathlib.Core.Path.{_≡_};
 ghost use Rattle.walk.specs.State.{groupInside, denseInside, stateInside};
 use crate::state::BlockElementsIter;
 use crate::state::DenseNodeIter;
-use crate::state::GroupRangeAt;
 use columns::inside::are_infos_inside;
 use columns::inside::are_rows_inside;
 use columns::inside::is_column_inside;
 use fields::part::part_fits;
+use kinds::state::GroupRangeAt;
 use wire::record::WireBlock;
 
 // Whether the number is below the count, and the range in the buffer.
@@ -24,21 +24,16 @@ fn group_inside(buffer: &[u8], block: WireBlock, of: GroupRangeAt) -> bool
 fn dense_inside(buffer: &[u8], block: WireBlock, nodes: DenseNodeIter) -> bool
     ensures { λ r. ⌜ r ≡ denseInside (now (buffer .entry)) block nodes ⌝ }
 {
-    let of = nodes.of;
-    let message = nodes.message;
-    let columns = nodes.columns;
-    let rows = columns.rows;
-    let keyvals = columns.keyvals;
-    if !group_inside(buffer, block, of) {
+    if !group_inside(buffer, block, nodes.of) {
         return false;
     }
-    if !part_fits(buffer.len(), message.start, message.len) {
+    if !part_fits(buffer.len(), nodes.message.start, nodes.message.len) {
         return false;
     }
-    if !are_rows_inside(buffer, rows) {
+    if !are_rows_inside(buffer, nodes.columns.rows) {
         return false;
     }
-    is_column_inside(buffer, keyvals)
+    is_column_inside(buffer, nodes.columns.keyvals)
 }
 
 // Whether a state is inside: 14 before anything is read where it is not.
@@ -50,19 +45,16 @@ pub(crate) fn state_inside(buffer: &[u8], block: WireBlock, state: BlockElements
         BlockElementsIter::Between(b) => b.group <= block.groups,
         BlockElementsIter::DenseNodes(nodes) => dense_inside(buffer, block, nodes),
         BlockElementsIter::FullDenseNodes(full) => {
-            let nodes = full.nodes;
-            let infos = full.infos;
-            if !dense_inside(buffer, block, nodes) {
+            if !dense_inside(buffer, block, full.nodes) {
                 return false;
             }
-            are_infos_inside(buffer, infos)
+            are_infos_inside(buffer, full.infos)
         }
         BlockElementsIter::Messages(m) => {
-            let of = m.of;
-            if !group_inside(buffer, block, of) {
+            if !group_inside(buffer, block, m.of) {
                 return false;
             }
-            m.at <= of.len
+            m.at <= m.of.len
         }
     }
 }

@@ -2,10 +2,8 @@
 // It reads a lent buffer by a record and a state, and hands out elements with the state behind each, the end, or a refusal of document 01's
 // table.
 pub mod block_elements;
-mod dense_nodes;
 mod inside;
-mod messages;
 mod moves;
-mod settle;
 pub mod state;
 mod steps;
+mod turns;

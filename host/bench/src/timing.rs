@@ -1,5 +1,5 @@
 //! How long a pass over all blocks takes: the tasks and the sides take turns,
-//! each turn is as many passes as fill a second, and the best turn counts, so
+//! each turn is as many passes as fill half a second, and the best turn counts, so
 //! that other work on the computer weighs little.
 
 use std::time::{Duration, Instant};
@@ -9,7 +9,7 @@ use crate::table::Column;
 /// Turns of each task and side.
 const ROUNDS: usize = 5;
 /// How long a turn takes at least.
-const TURN: Duration = Duration::from_secs(1);
+const TURN: Duration = Duration::from_millis(500);
 
 #[derive(Clone, Copy, PartialEq, Eq)]
 pub enum Task {

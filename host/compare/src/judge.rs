@@ -5,7 +5,7 @@
 //! the reader's own properties are left.
 
 use reader::group::{NODE, RELATION, WAY};
-use reader::{DenseNodes, Node, Record, Relation, Way};
+use reader::{DenseNodes, Mode, Node, Record, Relation, Way};
 
 use crate::by_c;
 use crate::by_published;
@@ -18,6 +18,14 @@ use crate::tally::Tally;
 /// The other sides, as a difference names them.
 const PUBLISHED: &str = "published";
 const THROUGH_C: &str = "through C";
+
+/// Questions that are put to C alone, or by what no scan left.
+const FORGED: &str = "forged";
+const CHANGED: &str = "changed";
+
+/// What a changed byte is changed by: its lowest bit, that which says whether a
+/// varint goes on, and both with some between.
+const CHANGES: [u8; 3] = [0x01, 0x80, 0xd5];
 
 /// What the inputs so far have shown.
 #[derive(Default)]
@@ -61,6 +69,49 @@ impl Judge {
         };
         for room in [full + 3, full, full.saturating_sub(1)] {
             self.ask(Ask::Scan { len, room }, bytes);
+        }
+    }
+
+    /// States that no walk over a block left, put to C; with a seed some of
+    /// them at random.
+    pub fn forged(&mut self, bytes: &[u8], seed: Option<u64>) {
+        for tried in by_c::forged(bytes, seed) {
+            self.tally.count(FORGED, tried.number);
+            self.tally.count_through_c(FORGED);
+            if let Some(how) = tried.difference {
+                self.tally.broken(FORGED, bytes, &format!("\n  {how}"));
+            }
+        }
+    }
+
+    /// A byte of a scanned buffer changed behind the scan, in the block or in
+    /// the tables: the walks by the record of before, without asking the check.
+    pub fn changed(&mut self, bytes: &[u8]) {
+        let Ok((buffer, record)) = by_reader::open(bytes) else {
+            return;
+        };
+        for at in 0..buffer.len() {
+            for change in CHANGES {
+                let mut buffer = buffer.clone();
+                buffer[at] ^= change;
+                self.walks(&buffer, &record);
+            }
+        }
+    }
+
+    /// Both walks over a buffer by a record.
+    fn walks(&mut self, buffer: &[u8], record: &Record) {
+        for (ask, mode) in [(Ask::Plain, Mode::Plain), (Ask::Full, Mode::Full)] {
+            let Some(proved) = by_c::walked(buffer, record, mode) else {
+                return;
+            };
+            let reader = by_reader::walked(buffer, record, mode);
+            self.tally.count(CHANGED, number_of(ask, &reader));
+            self.tally.count_through_c(CHANGED);
+            if proved != reader {
+                let other = (THROUGH_C, &proved[..]);
+                self.tally.unexplained(ask, buffer, &reader, other);
+            }
         }
     }
 

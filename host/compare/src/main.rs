@@ -26,6 +26,7 @@ mod sides;
 mod sweep;
 mod tally;
 mod text;
+mod tried;
 
 use std::process::ExitCode;
 use std::time::Instant;

@@ -20,6 +20,10 @@ use crate::text::parse_bytes;
 const SHORT: usize = 40_000;
 /// Structured blocks in a round.
 const BLOCKS: u64 = 40;
+/// A block of fewer bytes is changed behind its scan, byte by byte.
+const SHORT_BLOCK: usize = 200;
+/// Blocks between two whose states are forged.
+const FORGED_EVERY: u64 = 8;
 /// Odd and large, so that the rounds of neighbouring seeds do not meet.
 const SPREAD: u64 = 0x9e37_79b9_7f4a_7c15;
 /// Rounds between two full damages of a short block, and between two damages
@@ -38,6 +42,8 @@ pub fn fixed(judge: &mut Judge) {
     for (_, block) in fixtures() {
         judge.block(&block);
         sweep(&block, &mut |bytes| judge.block(bytes));
+        judge.forged(&block, None);
+        judge.changed(&block);
     }
     for_each_limit(&mut |limit| {
         let room = limit.buffer.len() as u64;
@@ -60,6 +66,7 @@ pub fn random(args: &Args, maps: &[Vec<u8>], judge: &mut Judge) -> u64 {
         one_round(seed, judge);
         if round % SWEEP_EVERY == 0 {
             for_each_swept(seed, 1, &mut |_, bytes| judge.block(bytes));
+            change_behind_the_scan(seed, judge);
         }
         if round % MAP_EVERY == 0 && !maps.is_empty() {
             damage_a_map(seed, maps, judge);
@@ -71,7 +78,11 @@ pub fn random(args: &Args, maps: &[Vec<u8>], judge: &mut Judge) -> u64 {
 
 fn one_round(seed: u64, judge: &mut Judge) {
     for index in 0..BLOCKS {
-        judge.block(&structured(seed, index).1);
+        let block = structured(seed, index).1;
+        judge.block(&block);
+        if index % FORGED_EVERY == 0 {
+            judge.forged(&block, Some(seed));
+        }
     }
     for_each_payload(seed, 1, &mut |_, _, bytes| judge.payload(bytes));
     for_each_pair(seed, 1, &mut |family, one, other| {
@@ -91,6 +102,16 @@ fn equal(one: &[u8], other: &[u8]) -> bool {
         && by_reader::verdict(other) == 0
         && reader::listing(one) == reader::listing(other)
         && reader::content(one) == reader::content(other)
+}
+
+/// The first short legal block of a round, changed behind its scan.
+fn change_behind_the_scan(seed: u64, judge: &mut Judge) {
+    let mut blocks = (0..BLOCKS).map(|index| structured(seed, index));
+    let short =
+        |(family, block): &(&str, Vec<u8>)| *family == "structured" && block.len() < SHORT_BLOCK;
+    if let Some((_, block)) = blocks.find(short) {
+        judge.changed(&block);
+    }
 }
 
 fn damage_a_map(seed: u64, maps: &[Vec<u8>], judge: &mut Judge) {

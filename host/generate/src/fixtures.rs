@@ -1,12 +1,13 @@
-//! Four good blocks of fixed content, for the shapes that common writers never
+//! Five good blocks of fixed content, for the shapes that common writers never
 //! make: loose and dense nodes in one group, several groups of every kind,
-//! ways beside relations, unknown member types, absent columns.
+//! ways beside relations, unknown member types, absent columns, metadata that
+//! ends before the dense nodes do.
 
 use crate::encode::{deltas, zigzag};
 use crate::model::{Block, Common, Dense, Group, Node, Relation, Way};
 use crate::spell::spell_plain;
 
-/// The four blocks with their names.
+/// The five blocks with their names.
 pub fn fixtures() -> Vec<(&'static str, Vec<u8>)> {
     vec![
         (
@@ -16,6 +17,7 @@ pub fn fixtures() -> Vec<(&'static str, Vec<u8>)> {
         ("several groups of every kind", spell(several_groups())),
         ("ways beside relations, then nodes", spell(shared_groups())),
         ("absent columns", spell(absent_columns())),
+        ("metadata of some dense nodes", spell(some_metadata())),
     ]
 }
 
@@ -105,6 +107,26 @@ fn absent_columns() -> Vec<Group> {
             ..Group::default()
         },
     ]
+}
+
+/// Two rows of metadata for three nodes, and one of visible.
+fn some_metadata() -> Vec<Group> {
+    let mut nodes = dense(&[(7, 5, 5), (9, 6, -6), (300, 7, 7)], &[0, 1, 2, 0]);
+    nodes.info = Some([
+        vec![3, 1],
+        deltas(&[1_500_000_000, 1_500_000_007]),
+        deltas(&[40, 20]),
+        deltas(&[8, -1]),
+        deltas(&[1, 3]),
+        vec![0],
+    ]);
+    let mut way = way(20, &[7, 9]);
+    way.common.info = Some([Some(2), None, Some(9), None, Some(3), Some(1)]);
+    vec![Group {
+        dense: Some(nodes),
+        ways: vec![way],
+        ..Group::default()
+    }]
 }
 
 fn node(id: i64, (lat, lon): (i64, i64), tags: &[(u64, u64)]) -> Node {

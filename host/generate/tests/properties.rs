@@ -64,7 +64,7 @@ fn accepted_share_by_family_and_runs() {
     }
     let of = |family: &str, number| outcomes[family].get(&number).copied().unwrap_or(0);
     assert_eq!(of("structured", 0), 10_000, "legal blocks are accepted");
-    assert_eq!(of("fixture", 0), 4);
+    assert_eq!(of("fixture", 0), 5);
     for number in 2..=12 {
         let reached = of("faulty", number) + of("unbalanced", number);
         assert!(reached > 10, "number {number} is reached {reached} times");

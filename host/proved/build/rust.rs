@@ -41,8 +41,10 @@ fn safe(function: &Function) -> String {
         Argument::Size(name) | Argument::Number32(name) => name.clone(),
     });
     let name = &function.name;
+    // `ref` is a word of Rust.
+    let word = if name == "ref" { "r#" } else { "" };
     format!(
-        "/// `nuorpyts_{name}`.\npub fn {name}({taken}) -> u32 {{\n\
+        "/// `nuorpyts_{name}`.\npub fn {word}{name}({taken}) -> u32 {{\n\
          unsafe {{ nuorpyts_{name}({passed}) }}\n}}\n"
     )
 }

@@ -23,12 +23,26 @@ pub type InRange = fn(&mut [u8], usize, usize, &mut [u8]) -> u32;
 /// and the slice for the answer.
 pub type ByRecord = fn(&mut [u8], &mut [u8], usize, &mut [u8]) -> u32;
 
+/// `nuorpyts_has_tags`, which the header has inline: false where an element
+/// surely has no tags.
+pub fn has_tags(buffer: &[u8], element: &[u8]) -> bool {
+    let view = &element[ELEMENT_VIEW..];
+    let keys = match number(element, ELEMENT_KIND) as usize {
+        ELEMENT_DENSE_NODE => {
+            let start = number(view, DENSE_NODE_TAGS_START);
+            let first = buffer.get(start as usize);
+            return start != number(view, DENSE_NODE_TAGS_END) && first != Some(&0);
+        }
+        ELEMENT_NODE => NODE_KEYS,
+        _ => WAY_KEYS,
+    };
+    number(view, keys + PART_PRESENT) != 0
+}
+
 /// The number at a place of an answer, a record or a state: 8 bytes, the
 /// lowest first.
 pub fn number(bytes: &[u8], place: usize) -> u64 {
-    let bytes = &bytes[place..place + NUMBER_SIZE];
-    bytes
-        .iter()
-        .rev()
-        .fold(0, |n, &byte| n << 8 | u64::from(byte))
+    let mut number = [0; NUMBER_SIZE];
+    number.copy_from_slice(&bytes[place..place + NUMBER_SIZE]);
+    u64::from_le_bytes(number)
 }

@@ -3,7 +3,6 @@
 
 use crate::column::{boolean, int32, sint32, sint64, Column};
 use crate::number::{Refusal, COUNTS_DIFFER};
-use crate::part::Part;
 use crate::subwalk::next_pair;
 use crate::views::{DenseInfo, DenseNodes};
 
@@ -35,14 +34,14 @@ pub struct InfoRows {
     pub user_sid: i32,
 }
 
-/// One dense node: running sums, its part of keys_vals without the closing 0,
-/// and its info where the walk is full and the five columns have a value.
+/// One dense node: running sums, keys_vals from its first pair on, and its info
+/// where the walk is full and the five columns have a value.
 #[derive(Clone, Copy, Debug, PartialEq, Eq)]
 pub struct DenseRow {
     pub id: i64,
     pub lat: i64,
     pub lon: i64,
-    pub tags: Part,
+    pub tags: Column,
     pub info: Option<DenseNodeInfo>,
 }
 
@@ -92,7 +91,8 @@ impl DenseRows {
         self.id = self.id.wrapping_add(id);
         self.lat = self.lat.wrapping_add(lat);
         self.lon = self.lon.wrapping_add(lon);
-        let tags = take_pairs(buffer, &mut self.keys_vals)?;
+        let tags = self.keys_vals;
+        take_pairs(buffer, &mut self.keys_vals)?;
         Ok(Some(DenseRow {
             id: self.id,
             lat: self.lat,
@@ -103,18 +103,10 @@ impl DenseRows {
     }
 }
 
-/// Takes one node's pairs and their closing 0; gives the part with the pairs.
-pub(crate) fn take_pairs(buffer: &[u8], keys_vals: &mut Column) -> Result<Part, Refusal> {
-    let start = keys_vals.at;
-    let mut end = start;
-    while next_pair(buffer, keys_vals)?.is_some() {
-        end = keys_vals.at;
-    }
-    Ok(if end == start {
-        Part::ABSENT
-    } else {
-        Part::at(start, end - start)
-    })
+/// Takes one node's pairs and their closing 0.
+pub(crate) fn take_pairs(buffer: &[u8], keys_vals: &mut Column) -> Result<(), Refusal> {
+    while next_pair(buffer, keys_vals)?.is_some() {}
+    Ok(())
 }
 
 impl InfoRows {

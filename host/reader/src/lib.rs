@@ -36,8 +36,8 @@ pub use part::{bytes_of, Part};
 pub use run::{all_steps, walked, walked_full};
 pub use scan::{always_enough, get, group, role_text, scan, Got, Record};
 pub use subwalk::{
-    dense_tags_step, members_step, refs_step, tags_step, DenseTags, Member, MemberId, Members,
-    Refs, ShownTag, Tags,
+    dense_tags_step, members_step, raw_dense_tags_step, raw_tags_step, refs_step, tags_step,
+    DenseTags, Member, MemberId, Members, RawTag, Refs, ShownTag, Tags,
 };
 pub use views::{DenseInfo, DenseNodes, Info, Node, Relation, Way};
 pub use walk::{nanodegrees, start, step, Body, DenseNode, DenseNodeInfo, Element, Mode, Walk};

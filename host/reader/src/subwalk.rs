@@ -9,9 +9,17 @@ use crate::part::Part;
 use crate::scan::{get, Got, Record};
 use crate::views::{Relation, Way};
 
-/// A shown tag: the places of its two strings.
+/// A tag as it is stored: the numbers of its two strings.
+#[derive(Clone, Copy, Debug, PartialEq, Eq)]
+pub struct RawTag {
+    pub key: u64,
+    pub val: u64,
+}
+
+/// A shown tag: its numbers, and the places of its two strings.
 #[derive(Clone, Copy, Debug, PartialEq, Eq)]
 pub struct ShownTag {
+    pub raw: RawTag,
     pub key: Part,
     pub val: Part,
 }
@@ -89,11 +97,9 @@ impl Tags {
 }
 
 impl DenseTags {
-    /// At the first tag of a dense node with this part of keys_vals.
-    pub fn of(pairs: Part) -> DenseTags {
-        DenseTags::At {
-            pairs: Column::of(pairs),
-        }
+    /// At the first tag of a dense node whose pairs keys_vals begins with.
+    pub fn of(pairs: Column) -> DenseTags {
+        DenseTags::At { pairs }
     }
 }
 
@@ -126,20 +132,40 @@ pub fn tags_step(buffer: &[u8], record: &Record, tags: Tags) -> (Answer<ShownTag
     answer(next_tag(buffer, record, keys, vals), Tags::Ended)
 }
 
+/// The next tag by its numbers alone, shown or not.
+pub fn raw_tags_step(buffer: &[u8], tags: Tags) -> (Answer<RawTag>, Tags) {
+    let Tags::At { keys, vals } = tags else {
+        return (Answer::Ended, Tags::Ended);
+    };
+    answer(next_raw_tag(buffer, keys, vals), Tags::Ended)
+}
+
 fn next_tag(
     buffer: &[u8],
     record: &Record,
+    keys: Column,
+    vals: Column,
+) -> Result<Option<(ShownTag, Tags)>, Refusal> {
+    test_record(buffer, record)?;
+    match next_raw_tag(buffer, keys, vals)? {
+        None => Ok(None),
+        Some((raw, next)) => Ok(show(buffer, record, raw)?.map(|tag| (tag, next))),
+    }
+}
+
+fn next_raw_tag(
+    buffer: &[u8],
     mut keys: Column,
     mut vals: Column,
-) -> Result<Option<(ShownTag, Tags)>, Refusal> {
-    test_state(buffer, record, &[keys, vals])?;
+) -> Result<Option<(RawTag, Tags)>, Refusal> {
+    test_columns(buffer, &[keys, vals])?;
     let key = keys.next(buffer)?.map(uint32);
     let val = vals.next(buffer)?.map(uint32);
     match (key, val) {
         (None, None) => Ok(None),
         (Some(key), Some(val)) => {
-            let shown = show(buffer, record, u64::from(key), u64::from(val))?;
-            Ok(shown.map(|tag| (tag, Tags::At { keys, vals })))
+            let (key, val) = (u64::from(key), u64::from(val));
+            Ok(Some((RawTag { key, val }, Tags::At { keys, vals })))
         }
         _ => Err(COUNTS_DIFFER),
     }
@@ -158,19 +184,33 @@ pub fn dense_tags_step(
     answer(next_dense_tag(buffer, record, pairs), DenseTags::Ended)
 }
 
+/// The next tag of a dense node by its numbers alone, shown or not.
+pub fn raw_dense_tags_step(buffer: &[u8], tags: DenseTags) -> (Answer<RawTag>, DenseTags) {
+    let DenseTags::At { pairs } = tags else {
+        return (Answer::Ended, DenseTags::Ended);
+    };
+    answer(next_raw_dense_tag(buffer, pairs), DenseTags::Ended)
+}
+
 fn next_dense_tag(
     buffer: &[u8],
     record: &Record,
-    mut pairs: Column,
+    pairs: Column,
 ) -> Result<Option<(ShownTag, DenseTags)>, Refusal> {
-    test_state(buffer, record, &[pairs])?;
-    match next_pair(buffer, &mut pairs)? {
+    test_record(buffer, record)?;
+    match next_raw_dense_tag(buffer, pairs)? {
         None => Ok(None),
-        Some((key, val)) => {
-            let shown = show(buffer, record, key, val)?;
-            Ok(shown.map(|tag| (tag, DenseTags::At { pairs })))
-        }
+        Some((raw, next)) => Ok(show(buffer, record, raw)?.map(|tag| (tag, next))),
     }
+}
+
+fn next_raw_dense_tag(
+    buffer: &[u8],
+    mut pairs: Column,
+) -> Result<Option<(RawTag, DenseTags)>, Refusal> {
+    test_columns(buffer, &[pairs])?;
+    let pair = next_pair(buffer, &mut pairs)?;
+    Ok(pair.map(|(key, val)| (RawTag { key, val }, DenseTags::At { pairs })))
 }
 
 /// The next pair of keys_vals, none at a key 0 (which is taken) or the end.
@@ -182,11 +222,11 @@ pub(crate) fn next_pair(buffer: &[u8], pairs: &mut Column) -> Result<Option<(u64
 }
 
 /// Both strings of a pair; 14 of either comes before none of either.
-fn show(buffer: &[u8], record: &Record, key: u64, val: u64) -> Result<Option<ShownTag>, Refusal> {
-    let key = text(get(buffer, record, key))?;
-    let val = text(get(buffer, record, val))?;
+fn show(buffer: &[u8], record: &Record, raw: RawTag) -> Result<Option<ShownTag>, Refusal> {
+    let key = text(get(buffer, record, raw.key))?;
+    let val = text(get(buffer, record, raw.val))?;
     Ok(match (key, val) {
-        (Some(key), Some(val)) => Some(ShownTag { key, val }),
+        (Some(key), Some(val)) => Some(ShownTag { raw, key, val }),
         _ => None,
     })
 }
@@ -237,7 +277,8 @@ fn next_member(
     columns: [Column; 3],
     sum: i64,
 ) -> Result<Option<(Member, Members)>, Refusal> {
-    test_state(buffer, record, &columns)?;
+    test_record(buffer, record)?;
+    test_columns(buffer, &columns)?;
     let [mut roles, mut memids, mut types] = columns;
     let role = roles.next(buffer)?.map(int32);
     let delta = memids.next(buffer)?.map(sint64);
@@ -265,9 +306,16 @@ fn next_member(
 }
 
 /// Record and state come before anything else that a step tests.
-fn test_state(buffer: &[u8], record: &Record, columns: &[Column]) -> Result<(), Refusal> {
-    let inside = record.is_inside(buffer) && columns.iter().all(|c| c.is_inside(buffer));
-    if inside {
+fn test_record(buffer: &[u8], record: &Record) -> Result<(), Refusal> {
+    inside(record.is_inside(buffer))
+}
+
+fn test_columns(buffer: &[u8], columns: &[Column]) -> Result<(), Refusal> {
+    inside(columns.iter().all(|column| column.is_inside(buffer)))
+}
+
+fn inside(holds: bool) -> Result<(), Refusal> {
+    if holds {
         Ok(())
     } else {
         Err(OUTSIDE)

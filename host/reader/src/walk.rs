@@ -39,17 +39,24 @@ pub struct InGroup {
 
 /// The phases of a group, in their order.
 #[derive(Clone, Copy, Debug, PartialEq, Eq)]
+#[allow(clippy::large_enum_variant)]
 pub enum Place {
-    Dense(DenseRows),
+    /// Among the rows of the dense message.
+    Dense {
+        message: Part,
+        rows: DenseRows,
+    },
     Nodes(Messages),
     Ways(Messages),
     Relations(Messages),
 }
 
-/// An element and its group number.
+/// An element, its group number and the message that it was read from, which
+/// for dense nodes is the group's one.
 #[derive(Clone, Copy, Debug, PartialEq, Eq)]
 pub struct Element {
     pub group: u64,
+    pub message: Part,
     pub body: Body,
 }
 
@@ -103,12 +110,12 @@ impl Walk {
     }
 
     /// A state is outside where a range in it is, or where its group number is
-    /// above the count.
+    /// not below the count; between groups the count itself is the end.
     fn is_inside(&self, buffer: &[u8], record: &Record) -> bool {
         match self {
             Walk::Ended => true,
             Walk::Before(number) => *number <= record.group_count,
-            Walk::Inside(inside) => inside.group <= record.group_count && inside.is_inside(buffer),
+            Walk::Inside(inside) => inside.group < record.group_count && inside.is_inside(buffer),
         }
     }
 
@@ -122,7 +129,6 @@ impl Walk {
                     Ok(inside) => *self = Walk::Inside(inside),
                     Err(number) => return Answer::Refused(number),
                 },
-                Walk::Inside(inside) if inside.group == record.group_count => return Answer::Ended,
                 Walk::Inside(inside) => match inside.next(buffer, mode) {
                     Answer::Ended => *self = Walk::Before(inside.group + 1),
                     answer => return answer,
@@ -143,7 +149,8 @@ impl InGroup {
             Mode::Full => DenseInfo::read(buffer, dense.info.start, dense.info.len)?,
             Mode::Plain => DenseInfo::default(),
         };
-        let place = Place::Dense(DenseRows::new(&dense, &info));
+        let rows = DenseRows::new(&dense, &info);
+        let place = Place::Dense { message, rows };
         Ok(InGroup {
             group,
             start,
@@ -154,7 +161,7 @@ impl InGroup {
 
     fn is_inside(&self, buffer: &[u8]) -> bool {
         let place = match &self.place {
-            Place::Dense(rows) => rows.is_inside(buffer),
+            Place::Dense { message, rows } => message.is_inside(buffer) && rows.is_inside(buffer),
             Place::Nodes(m) | Place::Ways(m) | Place::Relations(m) => m.is_inside(buffer),
         };
         place && Part::at(self.start, self.len).is_inside(buffer)
@@ -165,13 +172,19 @@ impl InGroup {
         let group = self.group;
         loop {
             let found = match &mut self.place {
-                Place::Dense(rows) => next_dense(buffer, rows, mode),
+                Place::Dense { message, rows } => next_dense(buffer, *message, rows, mode),
                 Place::Nodes(messages) => next_loose(buffer, messages, mode, node),
                 Place::Ways(messages) => next_loose(buffer, messages, mode, way),
                 Place::Relations(messages) => next_loose(buffer, messages, mode, relation),
             };
             match found {
-                Ok(Some(body)) => return Answer::Item(Element { group, body }),
+                Ok(Some((message, body))) => {
+                    return Answer::Item(Element {
+                        group,
+                        message,
+                        body,
+                    })
+                }
                 Ok(None) if self.next_phase() => {}
                 Ok(None) => return Answer::Ended,
                 Err(number) => return Answer::Refused(number),
@@ -183,7 +196,7 @@ impl InGroup {
     fn next_phase(&mut self) -> bool {
         let messages = |field| Messages::new(field, self.start, self.len);
         self.place = match self.place {
-            Place::Dense(_) => Place::Nodes(messages(NODE)),
+            Place::Dense { .. } => Place::Nodes(messages(NODE)),
             Place::Nodes(_) => Place::Ways(messages(WAY)),
             Place::Ways(_) => Place::Relations(messages(RELATION)),
             Place::Relations(_) => return false,
@@ -192,9 +205,12 @@ impl InGroup {
     }
 }
 
-fn next_dense(buffer: &[u8], from: &mut DenseRows, mode: Mode) -> Result<Option<Body>, Refusal> {
+/// What a step finds in a group: the message, and the element in it.
+type Found = Result<Option<(Part, Body)>, Refusal>;
+
+fn next_dense(buffer: &[u8], message: Part, from: &mut DenseRows, mode: Mode) -> Found {
     let row = from.next(buffer, mode == Mode::Full)?;
-    Ok(row.map(Body::Dense))
+    Ok(row.map(|row| (message, Body::Dense(row))))
 }
 
 /// The next message of its field, read by its view.
@@ -203,9 +219,11 @@ fn next_loose(
     from: &mut Messages,
     mode: Mode,
     read: fn(&[u8], Part, Mode) -> Result<Body, Refusal>,
-) -> Result<Option<Body>, Refusal> {
-    let message = next_message(buffer, from)?;
-    message.map(|part| read(buffer, part, mode)).transpose()
+) -> Found {
+    let Some(message) = next_message(buffer, from)? else {
+        return Ok(None);
+    };
+    Ok(Some((message, read(buffer, message, mode)?)))
 }
 
 fn node(buffer: &[u8], message: Part, mode: Mode) -> Result<Body, Refusal> {

@@ -5,6 +5,7 @@
 mod common;
 use common::*;
 use reader::listing::{Kind, Metadata};
+use reader::walk::{InGroup, Place};
 use reader::*;
 
 /// A dense field from its columns: ids, lats, lons, then other fields.
@@ -393,6 +394,85 @@ fn sub_walks_test_ended_then_their_state() {
         sum: 0,
     };
     assert_eq!(refs_step(&buffer, refs), (Answer::Refused(14), Refs::Ended));
+}
+
+#[test]
+fn raw_tags_go_on_where_none_is_shown() {
+    let tagged = field(1, &join(&[&field(2, &[1, 9, 1]), &field(3, &[1, 1, 1])]));
+    let group = [
+        dense(&[2], &[2], &[2], &field(10, &[1, 1, 9, 0, 0])),
+        tagged,
+    ]
+    .concat();
+    let block = join(&[&strings(&["", "a"]), &block_of(&group)]);
+    let (buffer, record) = scanned(&block).unwrap();
+    let [(plain, _), _] = walks(&block);
+    let (Body::Dense(dense), Body::Node(node)) = (plain[0].body, plain[1].body) else {
+        panic!("a dense node, then a node")
+    };
+    let numbers = |tag: &RawTag| (tag.key, tag.val);
+    let pairs = all_steps(DenseTags::of(dense.tags), |s| {
+        raw_dense_tags_step(&buffer, s)
+    })
+    .unwrap();
+    assert_eq!(
+        pairs.iter().map(numbers).collect::<Vec<_>>(),
+        [(1, 1), (9, 0)]
+    );
+    let state = Tags::of(node.keys, node.vals);
+    let pairs = all_steps(state, |s| raw_tags_step(&buffer, s)).unwrap();
+    assert_eq!(pairs.len(), 3);
+    let shown = all_steps(state, |s| tags_step(&buffer, &record, s)).unwrap();
+    assert_eq!(
+        shown.iter().map(|t| numbers(&t.raw)).collect::<Vec<_>>(),
+        [(1, 1)]
+    );
+}
+
+#[test]
+fn an_element_has_the_range_of_its_message() {
+    let group = [dense(&[2, 2], &[2, 2], &[2, 2], &[]), field(3, &[0x08, 3])].concat();
+    let block = block_of(&group);
+    let [(plain, _), (full, _)] = walks(&block);
+    let ranges =
+        |elements: &[Element]| -> Vec<Part> { elements.iter().map(|e| e.message).collect() };
+    assert_eq!(
+        ranges(&plain),
+        [Part::at(4, 12), Part::at(4, 12), Part::at(18, 2)]
+    );
+    assert_eq!(ranges(&full), ranges(&plain));
+}
+
+#[test]
+fn a_state_in_a_group_is_below_the_count_and_inside() {
+    let block = block_of(&dense(&[2, 2], &[2, 2], &[2, 2], &[]));
+    let (buffer, record) = scanned(&block).unwrap();
+    let (_, state) = step(&buffer, &record, start(&record), Mode::Plain);
+    let Walk::Inside(inside) = state else {
+        panic!("among the dense nodes")
+    };
+    let Place::Dense { message, rows } = inside.place else {
+        panic!("among the dense nodes")
+    };
+    let goes_on = |inside| {
+        !matches!(
+            step(&buffer, &record, Walk::Inside(inside), Mode::Plain).0,
+            Answer::Refused(14)
+        )
+    };
+    assert!(goes_on(inside));
+    assert!(!goes_on(InGroup { group: 1, ..inside }));
+    assert!(!goes_on(InGroup {
+        len: usize::MAX,
+        ..inside
+    }));
+    for (start, len) in [(0, buffer.len() + 1), (usize::MAX, message.len)] {
+        let message = Part::at(start, len);
+        assert!(!goes_on(InGroup {
+            place: Place::Dense { message, rows },
+            ..inside
+        }));
+    }
 }
 
 #[test]

@@ -2,7 +2,7 @@
 use Prim.Native.Nat.{ℕ, zero, suc, _+_, _*_, _^_, _≤_, _<_}
 use mathlib.Core.Path.{_≡_, refl, sym, ap, _∙_}
 use mathlib.Core.List.{List, [], _∷_, _++_, append-assoc, append-nil}
-use native.Mathlib.Nat.{mod-eq-of-lt}
+use native.Mathlib.Nat.{mod-eq-of-lt, zero-add}
 use native.Mathlib.Numerals.{add-one}
 use native.Mathlib.Omega.{arith}
 use borrow.Author.Tests.{le-leb, lt-leb}
@@ -10,14 +10,14 @@ use lib.ListN.{length, take, drop, getD, length-append, take-append-drop}
 use lib.Seq.{take-at, drop-at, drop-drop, take-suc, take-all, length-take-le}
 use Rattle.numbers.specs.Little.{little, bytes, numberAt, written, writtenAt}
 use Rattle.numbers.proofs.laws.Little.{bytes-length, little-bytes, number-inside, writes-inside, written-none, written-length, written-twice}
-use Rattle.answers.specs.Words.{words, filled}
+use Rattle.answers.specs.Words.{words, filled, filledAt}
 
 pub words-length : (ws : List ℕ) → length (words ws) ≡ 8 * length ws
 unfolding words
 words-length [] = refl
 words-length (w ∷ ws) = simp (length-append, bytes-length) (omega (arith, words-length ws))
 
-words-append : (ws more : List ℕ) → words (ws ++ more) ≡ words ws ++ words more
+pub words-append : (ws more : List ℕ) → words (ws ++ more) ≡ words ws ++ words more
 unfolding words
 words-append [] more = refl
 words-append (w ∷ ws) more = ap (λ (l : List ℕ). bytes 8 w ++ l) (words-append ws more) ∙ sym (append-assoc (bytes 8 w) (words ws) (words more))
@@ -28,44 +28,64 @@ one-word v = sym (append-nil (bytes 8 v))
 
 -- ---- putting one number after the other
 
--- t is s with the first i of the numbers ws, for all of which there is room
-pub record Putting (s ws : List ℕ) (i : ℕ) (t : List ℕ) : Type 0 where
-  pub room : 8 * length ws ≤ length s
+-- t is s with the first i of the numbers ws from a place on, for all of which there is room
+pub record Putting (s : List ℕ) (at : ℕ) (ws : List ℕ) (i : ℕ) (t : List ℕ) : Type 0 where
+  pub room : at + 8 * length ws ≤ length s
   pub within : i ≤ length ws
-  pub is : t ≡ written s 0 (words (take i ws))
+  pub is : t ≡ written s at (words (take i ws))
 
-module _ {s ws : List ℕ} where
-  pub put-none : 8 * length ws ≤ length s → Putting s ws 0 s
+module _ {s : List ℕ} {at : ℕ} {ws : List ℕ} where
+  pub put-none : at + 8 * length ws ≤ length s → Putting s at ws 0 s
   unfolding words
-  put-none h = record { room = h; within = omega arith; is = sym (written-none s 0 (omega arith)) }
+  put-none h = record { room = h; within = omega arith; is = sym (written-none s at (omega arith)) }
 
-  first-length : {i : ℕ} {t : List ℕ} → Putting s ws i t → length (words (take i ws)) ≡ 8 * i
+  first-length : {i : ℕ} {t : List ℕ} → Putting s at ws i t → length (words (take i ws)) ≡ 8 * i
   first-length {i} p = words-length (take i ws) ∙ ap (λ (n : ℕ). 8 * n) (length-take-le i ws (p .within))
 
-  pub put-length : {i : ℕ} {t : List ℕ} → Putting s ws i t → length t ≡ length s
-  put-length {i} p = ap length (p .is) ∙ written-length s 0 (words (take i ws)) (omega (arith, p .room, p .within, first-length p))
+  pub put-length : {i : ℕ} {t : List ℕ} → Putting s at ws i t → length t ≡ length s
+  put-length {i} p = ap length (p .is) ∙ written-length s at (words (take i ws)) (omega (arith, p .room, p .within, first-length p))
 
-  pub put-one : {i : ℕ} {t u : List ℕ} → Putting s ws i t → i < length ws → u ≡ writtenAt 8 t (8 * i) (getD ws i 0) → Putting s ws (i + 1) u
+  pub put-one : {i : ℕ} {t u : List ℕ} → Putting s at ws i t → i < length ws → u ≡ writtenAt 8 t (at + 8 * i) (getD ws i 0) → Putting s at ws (i + 1) u
   put-one {i} {t} p h e =
       let first = words (take i ws) in
       let next = bytes 8 (getD ws i 0) in
       let size = first-length p in
-      let place : 8 * i ≡ 0 + length first = omega (arith, size) in
-      let room : 0 + length first + length next ≤ length s = omega (arith, p .room, size, bytes-length 8 (getD ws i 0)) in
+      let place : at + 8 * i ≡ at + length first = omega (arith, size) in
+      let room : at + length first + length next ≤ length s = omega (arith, p .room, size, bytes-length 8 (getD ws i 0)) in
       let both : first ++ next ≡ words (take (i + 1) ws) = ap (λ (l : List ℕ). first ++ l) (one-word (getD ws i 0)) ∙ sym (words-append (take i ws) (getD ws i 0 ∷ [])) ∙ ap words (sym (rw add-one (take-suc ws i 0 h))) in
       record {
         room = p .room;
         within = omega arith;
         is =
             e
-            ∙ writes-inside 8 t (8 * i) (getD ws i 0) (omega (arith, p .room, put-length p))
+            ∙ writes-inside 8 t (at + 8 * i) (getD ws i 0) (omega (arith, p .room, put-length p))
             ∙ (λ j. written (p .is j) (place j) next)
-            ∙ written-twice s 0 first next room
-            ∙ ap (written s 0) both;
+            ∙ written-twice s at first next room
+            ∙ ap (written s at) both;
       }
 
-  pub put-all : {i : ℕ} {t : List ℕ} → Putting s ws i t → length ws ≤ i → t ≡ filled s ws
-  put-all {i} p h = rw (le-leb (8 * length ws) (length s) (p .room)) (p .is ∙ ap (λ (l : List ℕ). written s 0 (words l)) (take-all i ws h))
+  pub put-all : {i : ℕ} {t : List ℕ} → Putting s at ws i t → length ws ≤ i → t ≡ filledAt s at ws
+  put-all {i} p h = rw (le-leb (at + 8 * length ws) (length s) (p .room)) (p .is ∙ ap (λ (l : List ℕ). written s at (words l)) (take-all i ws h))
+
+pub put-outside : (s : List ℕ) (at : ℕ) (ws : List ℕ) → length s < at + 8 * length ws → s ≡ filledAt s at ws
+put-outside s at ws h = rw (lt-leb (at + 8 * length ws) (length s) h)
+
+-- where there is room, all of them are written; and more behind them
+pub put-inside : (s : List ℕ) (at : ℕ) (ws : List ℕ) {t : List ℕ} → at + 8 * length ws ≤ length s → t ≡ filledAt s at ws → t ≡ written s at (words ws)
+put-inside s at ws h e = e ∙ rw (le-leb (at + 8 * length ws) (length s) h)
+
+pub put-behind : (s : List ℕ) (at : ℕ) (ws more : List ℕ) {t u : List ℕ} → at + 8 * length ws + 8 * length more ≤ length s → t ≡ filledAt s at ws → u ≡ written t (at + 8 * length ws) (words more)
+    → u ≡ written s at (words (ws ++ more))
+put-behind s at ws more h e g =
+    let place : at + 8 * length ws ≡ at + length (words ws) = omega (arith, words-length ws) in
+    g
+    ∙ (λ i. written (put-inside s at ws (omega arith) e i) (place i) (words more))
+    ∙ written-twice s at (words ws) (words more) (omega (arith, words-length ws, words-length more))
+    ∙ ap (written s at) (sym (words-append ws more))
+
+-- from the slice's start on
+pub from-start : (s ws : List ℕ) → filledAt s 0 ws ≡ filled s ws
+from-start s ws = rw (zero-add (8 * length ws))
 
 pub put-short : (s ws : List ℕ) → length s < 8 * length ws → s ≡ filled s ws
 put-short s ws h = rw (lt-leb (8 * length ws) (length s) h)

@@ -11,20 +11,22 @@ use Rattle.lookup.specs.declared.by_number.Got.{Got}
 use Rattle.lookup.specs.declared.by_number.Got.the-variants as got
 use Rattle.lookup.specs.declared.by_number.GroupRange.{GroupRange}
 use Rattle.fields.specs.Outcome.{kept, refused, onward}
-use Rattle.lookup.specs.Lookup.{getAt, groupAt}
+use Rattle.lookup.specs.Lookup.{groupAt}
 use Rattle.answers.specs.Record.{recordIn}
 use Rattle.answers.specs.Group.{rangeWords}
 use Rattle.answers.proofs.laws.Words.{put-short}
 use Rattle.answers.proofs.laws.Codes.{too-short, long-enough}
-use Rattle.nuorpyts.specs.Block.{getIn, gotCode, gotAfter, groupIn, rangeOf}
+use Rattle.nuorpyts.specs.Block.{gotBy, gotCode, gotAfter, groupIn, rangeOf}
+
+-- a text, that f asks for
+module _ (rec : List ℕ) (f : WireBlock → Got) where
+  pub got-no-record : {n : Refusal} → recordIn rec ≡ refused n → gotBy (recordIn rec) f ≡ got.Refused n
+  got-no-record e = rw e
+
+  pub got-with-record : {r : WireBlock} {found answer : Got} → recordIn rec ≡ kept r → found ≡ f r → found ≡ answer → gotBy (recordIn rec) f ≡ answer
+  got-with-record e g h = rw e (sym g ∙ h)
 
 module _ (s rec : List ℕ) (index : ℕ) where
-  pub get-no-record : {n : Refusal} → recordIn rec ≡ refused n → getIn s rec index ≡ got.Refused n
-  get-no-record e = rw e
-
-  pub get-with-record : {r : WireBlock} {found answer : Got} → recordIn rec ≡ kept r → found ≡ getAt s r index → found ≡ answer → getIn s rec index ≡ answer
-  get-with-record e g h = rw e (sym g ∙ h)
-
   pub group-no-record : {n : Refusal} → recordIn rec ≡ refused n → groupIn s rec index ≡ refused n
   unfolding onward
   group-no-record e = rw e

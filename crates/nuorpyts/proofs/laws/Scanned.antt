@@ -1,12 +1,14 @@
--- What a scan through C leaves for the other entries: the record in the slice is read back, so that strings and groups are the block's own;
--- and which refusal its code 13 is.
+-- What a scan through C leaves for the other entries: the record in the slice is read back, so that strings, roles and groups are the block's
+-- own; and which refusal its code 13 is.
 use Prim.Native.Nat.{ℕ, _+_, _*_, _^_, _≤_, _<_}
 use mathlib.Core.Path.{_≡_, refl, sym, ap, _∙_, subst}
 use mathlib.Core.List.{List}
 use native.Mathlib.Omega.{arith}
 use lib.ListN.{length, take, length-take}
 use lib.Dec.{leb}
+use lib.IntN.{ℤ, pos, negsuc}
 use Rattle.numbers.specs.Choose.{choose}
+use Rattle.numbers.specs.Signed.{twos, isInt32}
 use Rattle.numbers.proofs.laws.Little.{written-length}
 use Rattle.numbers.proofs.laws.Signed.{twos-in-range}
 use Rattle.protobuf.specs.declared.refusal.Refusal.{Refusal}
@@ -16,10 +18,12 @@ use Rattle.fields.specs.declared.part.Part.{Part}
 use Rattle.fields.specs.Outcome.{Outcome, kept, onward}
 use Rattle.wire.specs.declared.record.WireBlock.{WireBlock}
 use Rattle.lookup.specs.declared.by_number.Got.{Got}
+use Rattle.lookup.specs.declared.by_number.Got.the-variants as got
 use Rattle.wire.specs.Scan.{Scanned, Scanned-as}
 use Rattle.lookup.specs.Lookup.{getAt, groupAt, stringOf, groupOf}
 use Rattle.wire.proofs.laws.Scan.{Kept, scan-kept, total}
 use Rattle.lookup.proofs.laws.Scanned.{scanned-get, scanned-group}
+use Rattle.elements.specs.Members.{roleAt, roleOf}
 use Rattle.answers.specs.Record.{recordWords, recordIn}
 use Rattle.answers.specs.Group.{rangeWords}
 use Rattle.answers.specs.Codes.{answerCode, answerAfter}
@@ -27,6 +31,7 @@ use Rattle.answers.proofs.laws.Words.{words-length, same-written}
 use Rattle.answers.proofs.laws.Codes.{Answered}
 use Rattle.answers.proofs.laws.Record.{Held, record-back}
 use Rattle.nuorpyts.specs.Block.{Scanned-in, gotBy, getIn, gotCode, gotAfter, rangeOf, groupIn}
+use Rattle.nuorpyts.specs.Walks.{roleIn, ownRole}
 use Rattle.nuorpyts.proofs.laws.Block.{GotAnswered}
 
 -- the machine holds a scan's numbers where it holds the buffer
@@ -56,7 +61,7 @@ scan-read {s} {rec} {b} {n} fits h =
     let long : 72 ≤ length rec = omega (arith, length-take 72 rec, ap length (h .numbers), words-length ws) in
     ap recordIn (same-written rec ws (h .numbers)) ∙ record-back rec (x .block) long (scan-held k (omega arith))
 
--- ---- strings and groups by number
+-- ---- strings, roles and groups by number
 
 module _ {s rec : List ℕ} (fits : length s < 2 ^ 64) {b : List ℕ} {n : ℕ} (h : Scanned-in s rec b n) where
   as-scanned : Scanned-as s (h .scan .block) b n
@@ -65,20 +70,42 @@ module _ {s rec : List ℕ} (fits : length s < 2 ^ 64) {b : List ℕ} {n : ℕ} 
   own-string : (index : ℕ) → getIn s rec index ≡ stringOf (take n b) index
   own-string index = ap (λ (x : Outcome WireBlock). gotBy x λ r. getAt s r index) (scan-read fits h) ∙ scanned-get as-scanned index
 
+  own-role : (role : ℕ) → roleIn s rec role ≡ ownRole (take n b) role
+  own-role role =
+      ap (λ (x : Got). choose (isInt32 role) x (got.Refused Outside))
+      (ap (λ (x : Outcome WireBlock). gotBy x λ r. roleAt s r (twos 32 role)) (scan-read fits h) ∙ by (twos 32 role))
+    where
+      by : (z : ℤ) → roleAt s (h .scan .block) z ≡ roleOf (take n b) z
+      by (pos k) = scanned-get as-scanned k
+      by (negsuc k) = refl
+
   own-group : (index : ℕ) → groupIn s rec index ≡ rangeOf (groupOf (take n b) index)
   unfolding onward
   own-group index =
       ap (λ (x : Outcome WireBlock). onward x λ r. rangeOf (groupAt s r index)) (scan-read fits h) ∙ ap rangeOf (scanned-group as-scanned index)
 
--- all clauses of an entry's contract, by the two of code and bytes
+-- all clauses of an entry's contract, by the two of code and bytes: of a text x, which is a block's own where a scan left the slices
+module _ (s rec out : List ℕ) (x : Got) (own : List ℕ → Got) where
+  abbrev GotClauses : ℕ → List ℕ → Type 0
+  GotClauses code after =
+      (code ≡ choose (leb 16 (length out)) (gotCode x) 14) × ((after ≡ gotAfter out x) × ((b : List ℕ) (n : ℕ) → Scanned-in s rec b n → GotAnswered out code after (own (take n b))))
+
+  got-clauses : ((b : List ℕ) (n : ℕ) → Scanned-in s rec b n → x ≡ own (take n b)) → {code : ℕ} {after : List ℕ} → GotAnswered out code after x → GotClauses code after
+  got-clauses same {code} {after} e = (e .0, (e .1, λ b n h. subst (λ (y : Got). GotAnswered out code after y) (same b n h) e))
+
+module _ (s rec out : List ℕ) (role : ℕ) where
+  abbrev pub RoleClauses : ℕ → List ℕ → Type 0
+  RoleClauses = GotClauses s rec out (roleIn s rec role) λ block. ownRole block role
+
+  pub role-clauses : length s < 2 ^ 64 → {code : ℕ} {after : List ℕ} → GotAnswered out code after (roleIn s rec role) → RoleClauses code after
+  role-clauses fits e = got-clauses s rec out (roleIn s rec role) (λ block. ownRole block role) (λ b n h. own-role fits h role) e
+
 module _ (s rec out : List ℕ) (index : ℕ) where
   abbrev pub GetClauses : ℕ → List ℕ → Type 0
-  GetClauses code after =
-      let x = getIn s rec index in
-      (code ≡ choose (leb 16 (length out)) (gotCode x) 14) × ((after ≡ gotAfter out x) × ((b : List ℕ) (n : ℕ) → Scanned-in s rec b n → GotAnswered out code after (stringOf (take n b) index)))
+  GetClauses = GotClauses s rec out (getIn s rec index) λ block. stringOf block index
 
   pub get-clauses : length s < 2 ^ 64 → {code : ℕ} {after : List ℕ} → GotAnswered out code after (getIn s rec index) → GetClauses code after
-  get-clauses fits {code} {after} e = (e .0, (e .1, λ b n h. subst (λ (x : Got). GotAnswered out code after x) (own-string fits h index) e))
+  get-clauses fits e = got-clauses s rec out (getIn s rec index) (λ block. stringOf block index) (λ b n h. own-string fits h index) e
 
   abbrev pub GroupClauses : ℕ → List ℕ → Type 0
   GroupClauses code after =

@@ -13,7 +13,7 @@ use Rattle.fields.specs.View.{Schema, Slots, empty, view}
 use Rattle.fields.proofs.laws.Outcome.{went}
 use Rattle.block.specs.Columns.{columnIn}
 use Rattle.block.specs.Tags.{Pair, densePairs}
-use Rattle.block.specs.Check.{passed, all, sameCounts, sameThree, readWhole, checkInfo, checkCommon, elementBy, checkRows, checkDense}
+use Rattle.block.specs.Check.{passed, sameCounts, sameThree, readWhole, checkInfo, checkCommon, elementBy, checkRows, checkDense}
 use Rattle.block.specs.Stored.{keptOr, slotsOf}
 use Rattle.block.specs.Metadata.{infosOf}
 use Rattle.block.proofs.laws.Accepted.{all-passed}

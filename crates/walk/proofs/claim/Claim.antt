@@ -2,36 +2,34 @@
 -- references and members; and both sides of two blocks' equality.
 use Prim.Native.Nat.{ℕ}
 use mathlib.Core.Path.{_≡_, refl, sym, ap, _∙_, subst}
-use mathlib.Core.List.{List, [], _∷_}
+use mathlib.Core.List.{List}
 use mathlib.Core.Bool.{true, false}
 use native.Mathlib.Omega.{arith}
 use lib.ListN.{take}
 use lib.IntN.{ℤ}
-use Rattle.fields.specs.Outcome.{kept}
 use Rattle.wire.specs.declared.record.WireBlock.{WireBlock}
-use Rattle.wire.specs.Scan.{Scanned-as}
 use Rattle.lookup.specs.Lookup.{isRecordInside}
 use Rattle.lookup.proofs.laws.Scanned.{record-stands}
-use Rattle.block.specs.Check.{passed, checked}
 use Rattle.block.specs.Listing.{Element, Member, listing}
 use Rattle.fields.specs.declared.part.Part.{Part}
 use Rattle.protobuf.specs.Column.{Column}
 use Rattle.elements.specs.declared.element.Element as handed
 use Rattle.elements.specs.declared.tags.Tag.{Tag}
 use Rattle.elements.specs.declared.members.RelMember.{RelMember}
-use Rattle.elements.specs.Tags.{tagsFrom, tagsStart}
-use Rattle.elements.specs.References.{refsFrom, refsStart}
-use Rattle.elements.specs.Members.{membersFrom, membersStart}
+use Rattle.elements.specs.Tags.{tagsFrom}
+use Rattle.elements.specs.References.{refsFrom}
+use Rattle.elements.specs.Members.{membersFrom}
 use Rattle.elements.specs.Element.{itemOf}
 use Rattle.walk.specs.declared.state.BlockElementsIter.{BlockElementsIter}
 use Rattle.walk.specs.declared.state.BlockElementsIter.the-variants as walk
+use Rattle.walk.specs.declared.block_elements.Said.{Said}
+use Rattle.walk.specs.declared.block_elements.Said.the-variants as says
 use Rattle.walk.specs.declared.block_elements.ElementStep.{ElementStep}
-use Rattle.walk.specs.declared.block_elements.ElementStep.the-variants as step
-use Rattle.walk.specs.Walk.{Found, elementsFrom, elementSaid, elementBehind, fresh}
+use Rattle.walk.specs.Walk.{Found, elementsFrom, saidThen, behindSaid, fresh}
 use Rattle.walk.specs.Shows.{Streams, all-out, one-more, TagShows, Shows, MemberShows, textOf}
 use Rattle.walk.specs.Same.{sameWalks}
 use Rattle.walk.specs.Run.{Says, gives, over, refuses, Run, Hands, no-more, hands-one, hands-end}
-use Rattle.walk.specs.Whole.{StepPost, NextPost, CallPost, by-step, by-next, Handed, elementTold, afterStep, TagPost, tagTold, afterTag, RefPost, refTold, afterRef, MemberPost, memberTold, afterMember, MemberIs, ElementIs, Accepted, Lists, Whole}
+use Rattle.walk.specs.Whole.{CallPost, by-step, by-next, Handed, saidTold, elementTold, afterStep, TagPost, tagTold, afterTag, RefPost, refTold, afterRef, MemberPost, memberTold, afterMember, MemberIs, ElementIs, Accepted, Lists, Whole}
 use Rattle.block.proofs.laws.Accepted.{accepted-equal}
 use Rattle.walk.proofs.claim.Runs.{Right, run-hands}
 use Rattle.walk.proofs.claim.Record.{same-granularity, same-latoffset, same-lonoffset, same-groups}
@@ -72,36 +70,39 @@ module _ (s : List ℕ) (r : WireBlock) (inside : isRecordInside s r ≡ true) w
   -- ---- the walk
 
   -- what an answer says, as what a walk has ahead
-  abbrev foundTold : ElementStep → Says Found
-  foundTold (step.Element group message element next) = gives (record { group = group; message = message; item = itemOf s element })
-  foundTold (step.Ended next) = over
-  foundTold (step.Refused n next) = refuses n
+  abbrev foundBy : Said → Says Found
+  foundBy (says.Element group message element) = gives (record { group = group; message = message; item = itemOf s element })
+  foundBy says.Ended = over
+  foundBy (says.Refused n) = refuses n
 
-  step-right : (w : BlockElementsIter) (a : ElementStep) → elementSaid s r a ≡ elementsFrom s r w → elementBehind a ≡ walk.Ended → Right foundTold afterStep (elementsFrom s r) w a
-  step-right w (step.Element group message element next) says behind = record { said = says; done = λ e. absurd (let z : _≡_ {A = ℕ} 0 1 = cc in omega arith) }
-  step-right w (step.Ended next) says behind = record { said = says; done = λ e. ap (elementsFrom s r) behind }
-  step-right w (step.Refused n next) says behind = record { said = says; done = λ e. ap (elementsFrom s r) behind }
+  abbrev foundTold : ElementStep → Says Found
+  foundTold a = foundBy (a .said)
+
+  said-right : (w : BlockElementsIter) (e : Said) (next : BlockElementsIter) → saidThen s r e next ≡ elementsFrom s r w → behindSaid e next ≡ walk.Ended → Right foundTold afterStep (elementsFrom s r) w (record { said = e; next = next })
+  said-right w (says.Element group message element) next so behind = record { said = so; done = λ e. absurd (let z : _≡_ {A = ℕ} 0 1 = cc in omega arith) }
+  said-right w says.Ended next so behind = record { said = so; done = λ e. ap (elementsFrom s r) behind }
+  said-right w (says.Refused n) next so behind = record { said = so; done = λ e. ap (elementsFrom s r) behind }
 
   call-right : (w : BlockElementsIter) (a : ElementStep) → CallPost s r w a → Right foundTold afterStep (elementsFrom s r) w a
-  call-right w a (by-step post) = step-right w a (post .says) (post .behind)
-  call-right w a (by-next post) = step-right w a (post .says) (post .behind)
+  call-right w a (by-step post) = said-right w (a .said) (a .next) (post .says) (post .behind)
+  call-right w a (by-next post) = said-right w (a .said) (a .next) (post .says) (post .behind)
 
-  shown-one : (a : ElementStep) {f : Found} {e : Element} → foundTold a ≡ gives f → Shows s r f e → (h : Handed) × (elementTold a ≡ gives h) × ElementIs s r h e
-  shown-one (step.Element group message element next) {f} {e} is h =
+  shown-one : (a : Said) {f : Found} {e : Element} → foundBy a ≡ gives f → Shows s r f e → (h : Handed) × (saidTold a ≡ gives h) × ElementIs s r h e
+  shown-one (says.Element group message element) {f} {e} is h =
       let same : record { group = group; message = message; item = itemOf s element } ≡ f = cc in
       (record { group = group; element = element }, refl, element-is group message element e (subst (λ (x : Found). Shows s r x e) (sym same) h))
-  shown-one (step.Ended next) is h = absurd (let z : _≡_ {A = ℕ} 0 1 = cc in omega arith)
-  shown-one (step.Refused n next) is h = absurd (let z : _≡_ {A = ℕ} 0 1 = cc in omega arith)
+  shown-one says.Ended is h = absurd (let z : _≡_ {A = ℕ} 0 1 = cc in omega arith)
+  shown-one (says.Refused n) is h = absurd (let z : _≡_ {A = ℕ} 0 1 = cc in omega arith)
 
-  ended-one : (a : ElementStep) → foundTold a ≡ over → elementTold a ≡ over
-  ended-one (step.Element group message element next) is = absurd (let z : _≡_ {A = ℕ} 0 1 = cc in omega arith)
-  ended-one (step.Ended next) is = refl
-  ended-one (step.Refused n next) is = absurd (let z : _≡_ {A = ℕ} 0 1 = cc in omega arith)
+  ended-one : (a : Said) → foundBy a ≡ over → saidTold a ≡ over
+  ended-one (says.Element group message element) is = absurd (let z : _≡_ {A = ℕ} 0 1 = cc in omega arith)
+  ended-one says.Ended is = refl
+  ended-one (says.Refused n) is = absurd (let z : _≡_ {A = ℕ} 0 1 = cc in omega arith)
 
   shown-all : {answers : List ElementStep} {items : List Element} → Hands foundTold (Shows s r) answers items → Hands elementTold (ElementIs s r) answers items
   shown-all no-more = no-more
-  shown-all (hands-one {a = a} told is others) = let one = shown-one a told is in hands-one (one .1) (one .2) (shown-all others)
-  shown-all (hands-end {a = a} told others) = hands-end (ended-one a told) (shown-all others)
+  shown-all (hands-one {a = a} told is others) = let one = shown-one (a .said) told is in hands-one (one .1) (one .2) (shown-all others)
+  shown-all (hands-end {a = a} told others) = hands-end (ended-one (a .said) told) (shown-all others)
 
   pub walk-hands : {items : List Element} → Streams (Shows s r) (elementsFrom s r (fresh false)) items
       → (w : BlockElementsIter) (answers : List ElementStep) → w ≡ fresh false → Run (CallPost s r) afterStep w answers → Hands elementTold (ElementIs s r) answers items

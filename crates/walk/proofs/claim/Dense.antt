@@ -17,7 +17,7 @@ use Rattle.block.specs.Listing.{denseNode, Element, denseBySums}
 use Rattle.block.specs.Listing as listed
 use Rattle.columns.specs.Zip.{both, zip}
 use Rattle.elements.specs.Element.{RowInfo, DenseItem}
-use Rattle.walk.specs.Dense.{Row, Metadata, behindPairs, nodeBy, nodesOf}
+use Rattle.kinds.specs.Dense.{Row, Metadata, behindPairs, nodeBy, nodesOf}
 use Rattle.walk.specs.Walk.{denseFound}
 use Rattle.walk.specs.Shows.{Streams, all-out, one-more, Shows}
 use Rattle.walk.proofs.claim.Whole.{Whole, no-values, one-value}

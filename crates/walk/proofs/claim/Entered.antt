@@ -9,7 +9,7 @@ use Rattle.protobuf.specs.Stream.{mapped}
 use Rattle.protobuf.specs.Column.{Column, column, int32s, sint32s, sint64s, bools, sums}
 use Rattle.fields.specs.declared.part.Part.{Part}
 use Rattle.fields.specs.Outcome.{Outcome, kept, each}
-use Rattle.fields.specs.Part.{moved, bytesIn}
+use Rattle.fields.specs.Part.{partBy, moved, bytesIn}
 use Rattle.fields.specs.Schema.{denseNodes, denseInfo}
 use Rattle.fields.specs.View.{Slots, view, viewIn}
 use Rattle.views.specs.declared.dense_nodes.WireDenseNodes.{WireDenseNodes}
@@ -24,9 +24,9 @@ use Rattle.block.specs.Metadata.{infosOf}
 use Rattle.columns.specs.InStep.{ahead, startOf}
 use Rattle.columns.specs.Zip.{zip, rowsAhead, infosAhead}
 use Rattle.elements.specs.Element.{DenseItem}
-use Rattle.walk.specs.declared.state.GroupRangeAt.{GroupRangeAt}
-use Rattle.walk.specs.declared.state.Loose.the-variants as kind
-use Rattle.walk.specs.Dense.{Row, Metadata, nodesOf}
+use Rattle.kinds.specs.declared.state.GroupRangeAt.{GroupRangeAt}
+use Rattle.kinds.specs.declared.state.Loose.the-variants as kind
+use Rattle.kinds.specs.Dense.{Row, Metadata, nodesOf}
 use Rattle.walk.specs.Walk.{Found, _then_, behind, messagesOf, fromNodes, denseFound, fromFullDense, rowsStart, infosStart, denseStart, enterDense}
 use Rattle.walk.proofs.claim.Place.{Stands, own-view, parts-stand}
 use Rattle.walk.proofs.claim.Texts.{Left}
@@ -110,7 +110,7 @@ module _ {s : List ℕ} {r : WireBlock} {n : ℕ} {strings : List Text} (l : Lef
 
   -- these nodes, and then the group's messages
   abbrev onward : Bool → Column DenseItem → Column Found
-  onward full nodes = mapped (denseFound (of .group) m) nodes then fromNodes s (messagesOf full of kind.Nodes)
+  onward full nodes = mapped (denseFound (of .group) (partBy (m .start) (m .len))) nodes then fromNodes s (messagesOf full of kind.Nodes)
 
   pub entered : (full : Bool) → enterDense full s of m v ≡ onward full (nodesIn full t slots)
   entered false = λ j. onward false (nodesOf (rows-ahead j) none (at 10 j))

@@ -26,10 +26,10 @@ use Rattle.block.specs.Strings.{Text}
 use Rattle.block.specs.Stored.{keptOr, slotsOf, foundBytes, denseBytes}
 use Rattle.block.specs.Check.{passed, all, checkNode, checkWay, checkRelation, checkDense, checkFound, checkGroup}
 use Rattle.block.proofs.laws.Accepted.{found-passed}
-use Rattle.walk.specs.declared.state.GroupRangeAt.{GroupRangeAt}
-use Rattle.walk.specs.declared.state.Loose.{Loose}
-use Rattle.walk.specs.declared.state.Loose.the-variants as kind
-use Rattle.walk.specs.Loose.{fieldOf}
+use Rattle.kinds.specs.declared.state.GroupRangeAt.{GroupRangeAt}
+use Rattle.kinds.specs.declared.state.Loose.{Loose}
+use Rattle.kinds.specs.declared.state.Loose.the-variants as kind
+use Rattle.kinds.specs.Loose.{fieldOf}
 use Rattle.walk.specs.Walk.{Found, behind, fromNodes, loose, denseFound, enterDense, enterFound, enterRange}
 use Rattle.walk.specs.Walk.{messagesOf as walked}
 use Rattle.walk.specs.Shows.{Streams}

@@ -7,7 +7,7 @@ use Rattle.protobuf.specs.Stream.{end, more}
 use Rattle.protobuf.specs.Column.{ended, Column}
 use Rattle.block.specs.Infos.{Info, Infos, NextInfo, present, missing, readNext, visibleInfo, userInfo, nextInfo}
 use Rattle.elements.specs.Element.{RowInfo, unread, row}
-use Rattle.walk.specs.Dense.{Metadata, byInfo, readInfo}
+use Rattle.kinds.specs.Dense.{Metadata, byInfo, readInfo}
 use Rattle.walk.proofs.claim.Whole.{Whole, no-values, one-value, Ends}
 
 pub record AllEnd (x : Infos) : Type 0 where

@@ -28,9 +28,9 @@ use Rattle.views.specs.Node.{nodeAt}
 use Rattle.views.specs.Way.{wayAt}
 use Rattle.views.specs.Relation.{relationAt}
 use Rattle.block.proofs.laws.Accepted.{all-passed}
-use Rattle.walk.specs.declared.state.Loose.{Loose}
-use Rattle.walk.specs.declared.state.Loose.the-variants as kind
-use Rattle.walk.specs.Loose.{fieldOf, nodeIn, wayIn, relationIn, viewedAs, Placed, itemThen, viewedAll}
+use Rattle.kinds.specs.declared.state.Loose.{Loose}
+use Rattle.kinds.specs.declared.state.Loose.the-variants as kind
+use Rattle.kinds.specs.Loose.{fieldOf, nodeIn, wayIn, relationIn, viewedAs, Placed, itemThen, viewedAll}
 use Rattle.walk.specs.Walk.{Found, placedIn, loose}
 use Rattle.walk.specs.Walk.{messagesOf as walked}
 use Rattle.walk.specs.Shows.{Streams, all-out, one-more, TagShows, MemberShows, membersOf, Shows}

@@ -2,8 +2,7 @@
 use Prim.Native.Nat.{ℕ}
 use mathlib.Core.Path.{_≡_, sym, ap, _∙_}
 use mathlib.Core.List.{List}
-use lib.IntN.{ℤ}
-use lib.ListN.{length, take, length-map}
+use lib.ListN.{take, length-map}
 use Rattle.numbers.specs.Signed.{twos}
 use Rattle.message.specs.Message.{message}
 use Rattle.fields.specs.Outcome.{Outcome}

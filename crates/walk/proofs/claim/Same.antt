@@ -1,6 +1,6 @@
 -- Two accepted blocks list the same exactly where the comparison in step says so: what is compared of two elements that show the listing's
 -- decides whether the listing's elements are equal, and streams of them whether the lists are.
-use Prim.Native.Nat.{ℕ, zero, suc}
+use Prim.Native.Nat.{ℕ}
 use mathlib.Core.Path.{_≡_, refl, sym, ap, _∙_, subst}
 use mathlib.Core.List.{List, [], _∷_}
 use mathlib.Core.Option.{Option, none, some}
@@ -10,10 +10,8 @@ use lib.Dec.{eqb}
 use lib.ListN.{take}
 use lib.IntN.{ℤ, pos, negsuc}
 use borrow.Author.Tests.{eqb-true, eqb-false}
-use Rattle.numbers.specs.Choose.{choose}
-use Rattle.protobuf.specs.Stream.{end, more}
-use Rattle.protobuf.specs.Column.{ended, Column}
-use Rattle.fields.specs.Outcome.{Outcome, kept, refused, onward}
+use Rattle.protobuf.specs.Column.{Column}
+use Rattle.fields.specs.Outcome.{Outcome, kept, onward}
 use Rattle.wire.specs.declared.record.WireBlock.{WireBlock}
 use Rattle.block.specs.Strings.{Text}
 use Rattle.block.specs.Strings as listed
@@ -24,8 +22,8 @@ use Rattle.elements.specs.declared.members.RelMember.{RelMember}
 use Rattle.walk.specs.Walk.{Found, elementsFrom, fresh}
 use Rattle.elements.specs.Members.{roleAt}
 use Rattle.walk.specs.Shows.{Streams, all-out, one-more, TagShows, textOf, idOf, MemberShows, Shows}
-use Rattle.walk.specs.Whole.{Lists, Accepted}
-use Rattle.walk.specs.Same.{sameNumber, sameText, sameRole, sameKind, samePosition, sameMemberId, andSame, sameStream, sameTag, sameRef, sameMember, sameHead, sameItem, sameElement, sameRecord, sameWalks}
+use Rattle.walk.specs.Whole.{Lists}
+use Rattle.walk.specs.Same.{sameNumber, sameText, sameRole, sameKind, samePosition, sameMemberId, andSame, sameStream, sameTag, sameRef, sameMember, sameHead, sameElement, sameRecord, sameWalks}
 
 -- a test that says whether P holds
 pub data Tests (P : Type 0) : Bool → Type 0 where

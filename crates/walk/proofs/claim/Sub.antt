@@ -4,7 +4,6 @@ use mathlib.Core.Path.{_≡_, ap}
 use mathlib.Core.List.{List}
 use native.Mathlib.Omega.{arith}
 use Rattle.wire.specs.declared.record.WireBlock.{WireBlock}
-use Rattle.elements.specs.declared.tags.Tag.{Tag}
 use Rattle.elements.specs.declared.tags.TagIter.{TagIter}
 use Rattle.elements.specs.declared.tags.TagIterStep.{TagIterStep}
 use Rattle.elements.specs.declared.tags.TagIterStep.the-variants as tag

@@ -12,7 +12,7 @@ use denote.Triple.Clauses.{AtExit}
 use borrow.Fn.Kinds.{endedOf}
 use borrow.Fn.World.{ArgsD, ResD}
 use native.Mathlib.Omega.{arith}
-use Rattle.fields.specs.Outcome.{Outcome, kept, each}
+use Rattle.fields.specs.Outcome.{kept, each}
 use Rattle.wire.specs.declared.record.WireBlock.{WireBlock}
 use Rattle.wire.specs.declared.scan.BlockScan.the-variants as scanned
 use Rattle.wire.specs.declared.scan.BlockScan.{BlockScan}
@@ -113,7 +113,7 @@ module _ (κs : Lfts 0) (a : ArgsD start.signature κs) (z : ResD start.signatur
 
 module _ (κs : Lfts 1) (a : ArgsD step.signature κs) (z : ResD step.signature κs) (e : AtExit (endedOf 1 step-kinds.ps step-kinds.r) κs) where
   pub steps : step-reads.Learnt κs a z e → CallPost (now (a .1 .0)) (a .1 .1 .0) (a .0) z
-  steps told = by-step told
+  steps told = by-step (told .0)
 
   -- so a call makes any run from the state that it hands back longer by one
   pub step-first : step-reads.Learnt κs a z e → {answers : List ElementStep} → Run (CallPost (now (a .1 .0)) (a .1 .1 .0)) afterStep (afterStep z) answers → Run (CallPost (now (a .1 .0)) (a .1 .1 .0)) afterStep (a .0) (z ∷ answers)
@@ -121,7 +121,7 @@ module _ (κs : Lfts 1) (a : ArgsD step.signature κs) (z : ResD step.signature 
 
 module _ (κs : Lfts 1) (a : ArgsD next.signature κs) (z : ResD next.signature κs) (e : AtExit (endedOf 1 next-kinds.ps next-kinds.r) κs) where
   pub nexts : next-reads.Learnt κs a z e → CallPost (now (a .1 .0)) (a .1 .1 .0) (a .0) z
-  nexts told = by-next told
+  nexts told = by-next (told .0)
 
   pub next-first : next-reads.Learnt κs a z e → {answers : List ElementStep} → Run (CallPost (now (a .1 .0)) (a .1 .1 .0)) afterStep (afterStep z) answers → Run (CallPost (now (a .1 .0)) (a .1 .1 .0)) afterStep (a .0) (z ∷ answers)
   next-first told run = asks (nexts told) run

@@ -23,9 +23,9 @@ use Rattle.block.specs.Tags.{Pair, NodePairs, takePairs, densePairs}
 use Rattle.block.specs.Metadata.{Metadata, viewed, inStep, infoThen, nodeInfos, elementInfo}
 use Rattle.columns.specs.Zip.{both, zip}
 use Rattle.elements.specs.Element.{row, DenseItem}
-use Rattle.walk.specs.declared.state.Loose.{Loose}
-use Rattle.walk.specs.declared.state.Loose.the-variants as kind
-use Rattle.walk.specs.Dense.{Row, byInfo, nodesOf}
+use Rattle.kinds.specs.declared.state.Loose.{Loose}
+use Rattle.kinds.specs.declared.state.Loose.the-variants as kind
+use Rattle.kinds.specs.Dense.{Row, byInfo, nodesOf}
 use Rattle.walk.specs.Walk.{Found, denseFound}
 use Rattle.walk.specs.Shows.{Streams, all-out, one-more, viewedInfo, metadataOf}
 use Rattle.walk.proofs.claim.Whole.{Whole, no-values, one-value}

@@ -1,13 +1,13 @@
 -- A column that is read whole, which is what the check asks of every column that a walk reads: it ends with no refusal, behind as many values
 -- as were counted. What its field's type or a running sum makes of it is read whole as well.
 use Prim.Native.Nat.{ℕ, zero, suc, _+_}
-use mathlib.Core.Path.{_≡_, refl, sym, ap, _∙_, subst}
+use mathlib.Core.Path.{_≡_, refl, ap, subst}
 use native.Mathlib.Omega.{arith}
 use lib.IntN.{ℤ, pos}
 use lib.ListN.{length}
 use Rattle.protobuf.specs.Stream.{end, more, mapped}
 use Rattle.protobuf.specs.Column.{ended, cut, Column, sint64s, sumsFrom, sums}
-use Rattle.fields.specs.Outcome.{Outcome, kept}
+use Rattle.fields.specs.Outcome.{kept}
 use Rattle.fields.proofs.laws.Outcome.{each-kept, went, kept-same}
 use Rattle.block.specs.Columns.{countOf}
 use Rattle.block.specs.Stored.{valuesOf}

@@ -10,13 +10,12 @@ use Rattle.protobuf.specs.Column.{ended, cut, Column}
 use Rattle.fields.specs.Outcome.{Outcome, kept, refused}
 use Rattle.wire.specs.declared.record.WireBlock.{WireBlock}
 use Rattle.walk.specs.Walk.{Found, _then_, behind, groupsFrom, groupsBehind, placedIn, fromKind, elementsBy}
-use Rattle.walk.specs.Said.{atPlace}
+use Rattle.kinds.specs.Said.{atPlace}
 use Rattle.walk.specs.Moves.{behindKind}
-use Rattle.walk.specs.declared.state.Loose.{Loose}
-use Rattle.walk.specs.declared.state.Messages.{Messages}
-use Rattle.walk.specs.Loose.{Placed, looseAhead}
-use Rattle.walk.specs.declared.state.Loose.the-variants as kind
-use Rattle.walk.specs.declared.dense_nodes.FullDenseStep.the-variants as full
+use Rattle.kinds.specs.declared.state.Loose.{Loose}
+use Rattle.kinds.specs.declared.state.Messages.{Messages}
+use Rattle.kinds.specs.Loose.{Placed, looseAhead}
+use Rattle.kinds.specs.declared.state.Loose.the-variants as kind
 
 -- what is read whole, and then a stream behind it
 module _ {A B : Type 0} {x : Outcome A} (f : A → Column B) (others : Column B) where

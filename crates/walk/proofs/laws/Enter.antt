@@ -32,26 +32,21 @@ use Rattle.lookup.specs.Lookup.{entryAt, isRecordInside, groupAt}
 use Rattle.lookup.specs.declared.by_number.GroupRange.the-variants as range
 use Rattle.columns.specs.InStep.{startOf}
 use Rattle.columns.specs.Inside.{columnInside, infosInside}
-use Rattle.columns.specs.declared.info_rows.InfoColumns.{InfoColumns}
 use Rattle.columns.proofs.laws.Inside.{also-true}
 use Rattle.columns.proofs.laws.InStep.{start-absent, start-here}
-use Rattle.walk.specs.declared.state.GroupRangeAt.{GroupRangeAt}
-use Rattle.walk.specs.declared.state.DenseColumns.{DenseColumns}
+use Rattle.kinds.specs.declared.state.GroupRangeAt.{GroupRangeAt}
+use Rattle.kinds.specs.declared.state.DenseColumns.{DenseColumns}
 use Rattle.walk.specs.declared.state.DenseNodeIter.{DenseNodeIter}
-use Rattle.walk.specs.declared.state.BlockElementsIter.{BlockElementsIter}
-use Rattle.walk.specs.declared.steps.Quiet.{Quiet}
+use Rattle.walk.specs.declared.turns.Move.{Move}
 use Rattle.walk.specs.State.{groupInside, denseInside}
 use Rattle.walk.specs.Walk.{Found, _then_, behind, messagesOf, fromNodes, fromDense, rowsStart, infosStart, enterDense, enterFound, enterRange, groupsFrom, groupsBehind}
-use Rattle.walk.specs.Said.{columnsInside}
-use Rattle.walk.specs.Moves.{leftFrom, beforeKind, atDense, atInfos, Quietly}
-use Rattle.walk.specs.declared.state.Loose.the-variants as kind
+use Rattle.kinds.specs.Said.{columnsInside}
+use Rattle.walk.specs.Moves.{leftFrom, beforeKind, movesTo, movesOut, atDense, atInfos, Quietly}
+use Rattle.kinds.specs.declared.state.Loose.the-variants as kind
 use Rattle.walk.specs.declared.state.BlockElementsIter.the-variants as walk
-use Rattle.walk.specs.declared.block_elements.ElementStep.the-variants as step
-use Rattle.walk.specs.declared.steps.Quiet.the-variants as quiet
-use Rattle.walk.specs.declared.dense_nodes.FullDenseStep.the-variants as full
-use Rattle.walk.proofs.laws.Inside.{group-below, dense-group}
+use Rattle.walk.proofs.laws.Inside.{group-below, nodes-before, dense-group}
 use Rattle.walk.proofs.laws.Ahead.{behind-refused, behind-kept}
-use Rattle.walk.proofs.laws.Quiet.{near}
+use Rattle.walk.proofs.laws.Quiet.{near, quiet-moved, quiet-out}
 
 -- ---- columns at the start of a part
 
@@ -107,22 +102,17 @@ module _ (s : List ℕ) (small : length s < 2 ^ 64) where
 -- ---- to dense nodes
 
 module _ (s : List ℕ) (r : WireBlock) (small : length s < 2 ^ 64) where
-  pub enters-infos : (nodes : DenseNodeIter) (info : Part) {v : WireDenseInfo} {infos : InfoColumns} → denseInside s r nodes ≡ true → infos ≡ infosStart v
-      → each (denseInfoAt (info .start)) (viewIn denseInfo s (info .start) (info .len)) ≡ kept v
-      → Quietly s r (leftFrom r (nodes .of .group)) (atInfos s r nodes info) (quiet.Moved (walk.FullDenseNodes (record { nodes = nodes; infos = infos })))
+  pub enters-infos : (nodes : DenseNodeIter) (info : Part) {v : WireDenseInfo} {q : Move} → denseInside s r nodes ≡ true → q ≡ movesTo (walk.FullDenseNodes (record { nodes = nodes; infos = infosStart v }))
+      → each (denseInfoAt (info .start)) (viewIn denseInfo s (info .start) (info .len)) ≡ kept v → Quietly s r (leftFrom r (nodes .of .group)) (atInfos s r nodes info) q
   enters-infos nodes info {v} inside is e =
-      subst (λ (x : InfoColumns). Quietly s r (leftFrom r (nodes .of .group)) (atInfos s r nodes info) (quiet.Moved (walk.FullDenseNodes (record { nodes = nodes; infos = x })))) (sym is)
-      (record {
-        says = sym (behind-kept _ _ e);
-        on = also-true (also-true inside (infos-started s small (info .start) (info .len) e)) (near r (nodes .of .group) 1 (group-below s r (nodes .of) (dense-group s r nodes inside)) (omega arith));
-        behind = refl;
-      })
+      quiet-moved s r (walk.FullDenseNodes (record { nodes = nodes; infos = infosStart v })) is (also-true inside (infos-started s small (info .start) (info .len) e))
+      (near r (nodes .of .group) 1 (group-below s r (nodes .of) (dense-group s r nodes inside)) (omega arith)) (behind-kept _ _ e)
 
   -- a dense message that is viewed
   module _ (of : GroupRangeAt) (message : Part) {v : WireDenseNodes} {columns : DenseColumns} (inside : groupInside s r of ≡ true) (is : columns ≡ record { rows = rowsStart v; keyvals = startOf (v .keyvals) })
       (e : each (denseNodesAt (message .start)) (viewIn denseNodes s (message .start) (message .len)) ≡ kept v) where
     abbrev with : DenseColumns → DenseNodeIter
-    with c = record { of = of; message = message; columns = c }
+    with c = record { of = of; message = record { start = message .start; len = message .len }; columns = c }
 
     pub nodes-inside : denseInside s r (with columns) ≡ true
     nodes-inside =
@@ -131,18 +121,14 @@ module _ (s : List ℕ) (r : WireBlock) (small : length s < 2 ^ 64) where
         (ap (columnsInside s) is ∙ dense-started s small (message .start) (message .len) e))
 
     module _ {full : Bool} where
-      pub enters-dense : full ≡ false → Quietly s r (leftFrom r (of .group)) (atDense full s r of message) (quiet.Moved (walk.DenseNodes (with columns)))
-      enters-dense plain =
-          record {
-            says =
-                ap (λ (c : DenseColumns). fromDense s (with c) then groupsBehind false s r of) is
-                ∙ sym (behind-kept (enterDense false s of message) (groupsBehind false s r of) e)
-                ∙ ap (λ (b : Bool). atDense b s r of message) (sym plain);
-            on = also-true nodes-inside (near r (of .group) 1 (group-below s r of inside) (omega arith));
-            behind = refl;
-          }
+      pub enters-dense : {q : Move} → full ≡ false → q ≡ movesTo (walk.DenseNodes (with columns)) → Quietly s r (leftFrom r (of .group)) (atDense full s r of message) q
+      enters-dense plain to =
+          quiet-moved s r (walk.DenseNodes (with columns)) to nodes-inside (near r (of .group) 1 (group-below s r of inside) (omega arith))
+          (ap (λ (b : Bool). atDense b s r of message) plain
+          ∙ behind-kept (enterDense false s of message) (groupsBehind false s r of) e
+          ∙ ap (λ (c : DenseColumns). fromDense s (with c) then groupsBehind false s r of) (sym is))
 
-      pub enters-full : {q : Quiet} → full ≡ true → Quietly s r (leftFrom r (of .group)) (atInfos s r (with columns) (v .info)) q → Quietly s r (leftFrom r (of .group)) (atDense full s r of message) q
+      pub enters-full : {q : Move} → full ≡ true → Quietly s r (leftFrom r (of .group)) (atInfos s r (with columns) (v .info)) q → Quietly s r (leftFrom r (of .group)) (atDense full s r of message) q
       enters-full {q} metadata h =
           subst (λ (c : Column Found). Quietly s r (leftFrom r (of .group)) c q)
           (ap (λ (c : DenseColumns). atInfos s r (with c) (v .info)) is
@@ -173,8 +159,8 @@ module _ (s : List ℕ) (r : WireBlock) where
     unfolding groupsFrom
     none-left h = let none : r .groups - group ≡ 0 = omega arith in ap (λ (n : ℕ). groupsFrom full s r n group) none
 
-    pub quiet-ended : r .groups ≤ group → Quietly s r (leftFrom r group) from (quiet.Says (step.Ended walk.Ended))
-    quiet-ended h = record { says = sym (none-left h); on = refl; behind = refl }
+    pub no-group : {q : Move} → r .groups ≤ group → q ≡ movesOut → Quietly s r (leftFrom r group) from q
+    no-group h is = quiet-out s r is (none-left h)
 
     module _ (below : group < r .groups) where
       one-group : from ≡ enterRange full s group (groupAt s r group) then groupsFrom full s r (r .groups - suc group) (suc group)
@@ -206,10 +192,9 @@ module _ (s : List ℕ) (r : WireBlock) where
               passed
               ∙ ap (λ (b : Bool). choose b (behind (each (denseNodesAt (message .start)) (viewIn denseNodes s (message .start) (message .len))) (enterDense full s (rangeOf p) message)) (fromNodes s (messagesOf full (rangeOf p) kind.Nodes)) then groupsBehind full s r (rangeOf p)) h
 
-          pub with-dense : {q : Quiet} → message .present ≡ true → Quietly s r (leftFrom r group) (atDense full s r (rangeOf p) message) q → Quietly s r (leftFrom r group) from q
+          pub with-dense : {q : Move} → message .present ≡ true → Quietly s r (leftFrom r group) (atDense full s r (rangeOf p) message) q → Quietly s r (leftFrom r group) from q
           with-dense {q} h k = subst (λ (c : Column Found). Quietly s r (leftFrom r group) c q) (sym (by-presence h)) k
 
-          pub without-dense : {w : BlockElementsIter} → message .present ≡ false → w ≡ beforeKind full (rangeOf p) kind.Nodes → Quietly s r (leftFrom r group) from (quiet.Moved w)
+          pub without-dense : {q : Move} → message .present ≡ false → q ≡ movesTo (beforeKind full (rangeOf p) kind.Nodes) → Quietly s r (leftFrom r group) from q
           without-dense h is =
-              subst (λ (x : BlockElementsIter). Quietly s r (leftFrom r group) from (quiet.Moved x)) (sym is)
-              (record { says = sym (by-presence h); on = also-true (also-true range-stands (le-leb 0 (p .len) (omega arith))) (near r group 2 below (omega arith)); behind = refl })
+              quiet-moved s r (beforeKind full (rangeOf p) kind.Nodes) is (nodes-before s r full (rangeOf p) range-stands) (near r group 2 below (omega arith)) (by-presence h)

@@ -1,6 +1,6 @@
 -- The laws of states that are inside: what tests in a row say of each, and what a state has inside of it.
 use Prim.Native.Nat.{ℕ, _+_, _<_}
-use mathlib.Core.Path.{_≡_, refl, sym, ap, _∙_}
+use mathlib.Core.Path.{_≡_, sym, ap, _∙_}
 use mathlib.Core.List.{List}
 use mathlib.Core.Bool.{Bool, true, false}
 use native.Mathlib.Omega.{arith}
@@ -8,22 +8,18 @@ use lib.Dec.{leb, ltb}
 use lib.ListN.{length}
 use borrow.Author.Tests.{le-leb, ltb-true}
 use Rattle.wire.specs.declared.record.WireBlock.{WireBlock}
-use Rattle.columns.specs.Inside.{also, columnInside, rowsInside}
+use Rattle.columns.specs.Inside.{also}
 use Rattle.columns.proofs.laws.Inside.{also-true, also-tail}
-use Rattle.walk.specs.declared.state.GroupRangeAt.{GroupRangeAt}
-use Rattle.walk.specs.declared.state.DenseColumns.{DenseColumns}
+use Rattle.kinds.proofs.laws.Inside.{both-hold}
+use Rattle.kinds.specs.declared.state.GroupRangeAt.{GroupRangeAt}
+use Rattle.kinds.specs.declared.state.DenseColumns.{DenseColumns}
 use Rattle.walk.specs.declared.state.DenseNodeIter.{DenseNodeIter}
 use Rattle.walk.specs.State.{groupInside, denseInside, stateInside}
-use Rattle.walk.specs.Said.{columnsInside}
+use Rattle.kinds.specs.Said.{columnsInside}
 use Rattle.walk.specs.Moves.{beforeKind}
-use Rattle.walk.specs.declared.state.Loose.the-variants as kind
-use Rattle.walk.specs.declared.dense_nodes.FullDenseStep.the-variants as full
+use Rattle.kinds.specs.declared.state.Loose.the-variants as kind
 
 -- ---- tests in a row
-
-pub both-hold : (a b : Bool) → also a b ≡ true → (a ≡ true) × (b ≡ true)
-both-hold true b e = (refl, e)
-both-hold false b e = absurd (let z : _≡_ {A = ℕ} 0 1 = cc in omega arith)
 
 -- what a first test that fails and one that holds make of both
 pub first-fails : {a : Bool} (b : Bool) → a ≡ false → false ≡ also a b
@@ -45,12 +41,6 @@ module _ (s : List ℕ) (r : WireBlock) where
   module _ (d : DenseNodeIter) (inside : denseInside s r d ≡ true) where
     pub dense-group : groupInside s r (d .of) ≡ true
     dense-group = both-hold (groupInside s r (d .of)) _ inside .0
-
-    pub dense-keyvals : columnInside s (d .columns .keyvals) ≡ true
-    dense-keyvals =
-        let message = both-hold (groupInside s r (d .of)) _ inside .1 in
-        let columns = both-hold (leb (d .message .start + d .message .len) (length s)) _ message .1 in
-        both-hold (rowsInside s (d .columns .rows)) _ columns .1
 
     pub dense-next : (next : DenseColumns) → columnsInside s next ≡ true → denseInside s r (record { of = d .of; message = d .message; columns = next }) ≡ true
     dense-next next h = also-tail (groupInside s r (d .of)) inside λ t. also-tail (leb (d .message .start + d .message .len) (length s)) t λ u. h

@@ -4,37 +4,33 @@ use mathlib.Core.Path.{_≡_, refl, sym, _∙_, subst}
 use mathlib.Core.List.{List}
 use mathlib.Core.Bool.{Bool, true}
 use native.Mathlib.Omega.{arith}
-use lib.Dec.{ltb}
 use borrow.Author.Tests.{le-leb, lt-ltb}
 use Rattle.protobuf.specs.declared.refusal.Refusal.{Refusal}
 use Rattle.protobuf.specs.Stream.{end, more}
-use Rattle.protobuf.specs.Column.{cut, Column}
+use Rattle.protobuf.specs.Column.{ended, cut, Column}
 use Rattle.fields.specs.declared.part.Part.{Part}
 use Rattle.wire.specs.declared.record.WireBlock.{WireBlock}
 use Rattle.lookup.specs.Lookup.{isRecordInside}
 use Rattle.columns.proofs.laws.Inside.{also-true}
 use Rattle.elements.specs.declared.element.Element.{Element}
 use Rattle.elements.specs.Element.{Item, itemOf}
-use Rattle.walk.specs.declared.state.GroupRangeAt.{GroupRangeAt}
+use Rattle.kinds.specs.declared.state.GroupRangeAt.{GroupRangeAt}
 use Rattle.walk.specs.declared.state.BlockElementsIter.{BlockElementsIter}
 use Rattle.walk.specs.State.{groupInside, stateInside}
-use Rattle.walk.specs.Walk.{Found, behind, elementsBy, elementsFrom, testedFrom, elementSaid}
-use Rattle.walk.specs.Moves.{leftFrom, beforeKind, refusedStep, Quietly, phase, left, behindKind}
-use Rattle.walk.specs.declared.state.Loose.{Loose}
-use Rattle.walk.specs.declared.state.Messages.{Messages}
-use Rattle.walk.specs.declared.state.Loose.the-variants as kind
+use Rattle.walk.specs.Walk.{Found, elementsBy, elementsFrom, testedFrom, saidThen}
+use Rattle.walk.specs.Moves.{leftFrom, beforeKind, movesTo, movesOut, movesRefused, movesWith, Quietly, phase, left, behindKind}
+use Rattle.kinds.specs.declared.state.Loose.{Loose}
+use Rattle.kinds.specs.declared.state.Loose.the-variants as kind
 use Rattle.walk.specs.declared.state.BlockElementsIter.the-variants as walk
-use Rattle.walk.specs.declared.block_elements.ElementStep.{ElementStep}
-use Rattle.walk.specs.declared.block_elements.ElementStep.the-variants as step
-use Rattle.walk.specs.declared.steps.Quiet.the-variants as quiet
-use Rattle.walk.specs.declared.dense_nodes.FullDenseStep.the-variants as full
+use Rattle.walk.specs.declared.block_elements.Said.the-variants as says
+use Rattle.walk.specs.declared.turns.Move.{Move}
 use Rattle.walk.proofs.laws.Inside.{group-below}
 
 -- ---- nearer to the end
 
 -- a state in the phase k of a group is nearer than the group's beginning
-pub near : (r : WireBlock) (group k : ℕ) → group < r .groups → 1 ≤ k → ltb (leftFrom r group - k) (leftFrom r group) ≡ true
-near r group k h g = lt-ltb (leftFrom r group - k) (leftFrom r group) (omega arith)
+pub near : (r : WireBlock) (group k : ℕ) → group < r .groups → 1 ≤ k → leftFrom r group - k < leftFrom r group
+near r group k h g = omega arith
 
 -- nodes come behind dense nodes
 pub nodes-near : (s : List ℕ) (r : WireBlock) (full : Bool) (of : GroupRangeAt) → groupInside s r of ≡ true → left r (beforeKind full of kind.Nodes) < leftFrom r (of .group) - 1
@@ -64,21 +60,22 @@ module _ (s : List ℕ) (r : WireBlock) where
   state-from h (walk.Messages m) g = simp (h, g)
 
   -- an element, with a state that is inside
-  pub said-one : isRecordInside s r ≡ true → {group : ℕ} {message : Part} (e : Element) {item : Item} (next : BlockElementsIter) {c : Column Found}
-      → itemOf s e ≡ item → stateInside s r next ≡ true → c ≡ more (record { group = group; message = message; item = item }) (elementsBy s r next) → elementSaid s r (step.Element group message e next) ≡ c
-  said-one h {group} {message} e next is g k = (λ i. more (record { group = group; message = message; item = is i }) (state-from h next g i)) ∙ sym k
+  module _ (tables : isRecordInside s r ≡ true) {group : ℕ} {message part : Part} (e : Element) {item : Item} (next : BlockElementsIter) {c : Column Found}
+      (at : message ≡ part) (is : itemOf s e ≡ item) (inside : stateInside s r next ≡ true) (k : c ≡ more (record { group = group; message = part; item = item }) (elementsBy s r next)) where
+    pub said-one : saidThen s r (says.Element group message e) next ≡ c
+    said-one = (λ i. more (record { group = group; message = at i; item = is i }) (state-from tables next inside i)) ∙ sym k
 
-  pub quiet-one : isRecordInside s r ≡ true → (n : ℕ) {group : ℕ} {message : Part} (e : Element) {item : Item} (next : BlockElementsIter) {c : Column Found}
-      → itemOf s e ≡ item → stateInside s r next ≡ true → c ≡ more (record { group = group; message = message; item = item }) (elementsBy s r next) → Quietly s r n c (quiet.Says (step.Element group message e next))
-  quiet-one h n e next is g k = record { says = said-one h e next is g k; on = refl; behind = refl }
+    pub quiet-one : {n : ℕ} {q : Move} → q ≡ movesWith group message e next → Quietly s r n c q
+    quiet-one {n} with-it = subst (Quietly s r n c) (sym with-it) (record { says = said-one; on = refl; behind = refl })
 
-  -- a move to a state that is inside and nearer
-  pub quiet-moved : {n : ℕ} {c : Column Found} {w : BlockElementsIter} (to : BlockElementsIter) → w ≡ to → stateInside s r to ≡ true → left r to < n → c ≡ elementsBy s r to → Quietly s r n c (quiet.Moved w)
-  quiet-moved {n} {c} to is g k e = subst (λ (x : BlockElementsIter). Quietly s r n c (quiet.Moved x)) (sym is) (record { says = sym e; on = also-true g (lt-ltb _ _ k); behind = refl })
+  module _ {n : ℕ} {c : Column Found} {q : Move} where
+    -- a move to a state that is inside and nearer
+    pub quiet-moved : (to : BlockElementsIter) → q ≡ movesTo to → stateInside s r to ≡ true → left r to < n → c ≡ elementsBy s r to → Quietly s r n c q
+    quiet-moved to is g k e = subst (Quietly s r n c) (sym is) (record { says = sym e; on = also-true g (lt-ltb _ _ k); behind = refl })
 
--- a refusal
-pub refuses : {s : List ℕ} {r : WireBlock} {m : ℕ} {c : Column Found} (n : Refusal) → c ≡ end (cut n) → Quietly s r m c (quiet.Says (refusedStep n))
-refuses n g = record { says = sym g; on = refl; behind = refl }
+    -- the walk's end, and a refusal
+    pub quiet-out : q ≡ movesOut → c ≡ end ended → Quietly s r n c q
+    quiet-out is e = subst (Quietly s r n c) (sym is) (record { says = sym e; on = refl; behind = refl })
 
-pub quiet-refused : {s : List ℕ} {r : WireBlock} {m : ℕ} {c : Column Found} {e : ElementStep} (n : Refusal) → e ≡ refusedStep n → c ≡ end (cut n) → Quietly s r m c (quiet.Says e)
-quiet-refused {s} {r} {m} {c} n e g = subst (λ (x : ElementStep). Quietly s r m c (quiet.Says x)) (sym e) (refuses n g)
+    pub quiet-refused : {m : Refusal} → q ≡ movesRefused m → c ≡ end (cut m) → Quietly s r n c q
+    quiet-refused is e = subst (Quietly s r n c) (sym is) (record { says = sym e; on = refl; behind = refl })

@@ -1,12 +1,13 @@
--- The laws of moves in a row: a walk that has moved has the same ahead, is inside and is nearer to its end; so it settles, and makes its step
--- from there. Before that comes 14.
-use Prim.Native.Nat.{ℕ, _≤_, _<_}
+-- The laws of turns in a row: a walk that has moved has the same ahead and is inside, and each move brings it nearer to its end; so a turn says
+-- something, or comes to plain dense nodes, where the walk makes its step. Before that comes 14.
+use Prim.Native.Nat.{ℕ, _<_}
 use mathlib.Core.Path.{_≡_, refl, sym, ap, _∙_, subst}
 use mathlib.Core.List.{List, [], _∷_}
 use mathlib.Core.Bool.{true, false}
 use mathlib.Core.Logic.{⊎-elim}
 use native.Mathlib.Omega.{arith}
-use borrow.Author.Tests.{leb-true, le-leb, ltb-true}
+use lib.Dec.{ltb}
+use borrow.Author.Tests.{ltb-true}
 use denote.Enum.Declared.{tagOf}
 use types.Run.{OneOf}
 use Rattle.protobuf.specs.declared.refusal.Refusal.{Refusal}
@@ -15,118 +16,99 @@ use Rattle.protobuf.specs.Stream.{end}
 use Rattle.protobuf.specs.Column.{ended, cut}
 use Rattle.wire.specs.declared.record.WireBlock.{WireBlock}
 use Rattle.lookup.specs.Lookup.{isRecordInside}
-use Rattle.columns.proofs.laws.Inside.{also-true}
 use Rattle.elements.specs.declared.element.NodeInfo.the-variants as node
-use Rattle.walk.specs.declared.state.DenseColumns.{DenseColumns}
+use Rattle.kinds.specs.declared.state.DenseColumns.{DenseColumns}
 use Rattle.walk.specs.declared.state.DenseNodeIter.{DenseNodeIter}
 use Rattle.walk.specs.declared.state.BlockElementsIter.{BlockElementsIter}
-use Rattle.walk.specs.declared.steps.Quiet.{Quiet}
-use Rattle.walk.specs.State.{denseInside, stateInside}
-use Rattle.walk.specs.Walk.{behind, elementsBy, elementsFrom, testedFrom, elementSaid, elementBehind}
-use Rattle.walk.specs.Said.{columnsInside, denseElement, denseSaidBy}
-use Rattle.walk.specs.Moves.{beforeKind, Quietly, left, Settles}
-use Rattle.walk.specs.declared.settle.Settled.{Settled}
-use Rattle.walk.specs.Dense.{denseAhead, denseSaid}
-use Rattle.walk.specs.declared.state.Messages.{Messages}
+use Rattle.walk.specs.declared.turns.Turn.{Turn}
+use Rattle.walk.specs.declared.turns.Turn.the-variants as turn
+use Rattle.walk.specs.declared.turns.Move.{Move}
+use Rattle.walk.specs.State.{groupInside, stateInside}
+use Rattle.walk.specs.Walk.{elementsBy, elementsFrom, testedFrom, saidThen, elementSaid, behindSaid, elementBehind}
+use Rattle.kinds.specs.Said.{columnsInside}
+use Rattle.walk.specs.Said.{denseElement, denseSaidBy}
+use Rattle.walk.specs.Moves.{beforeKind, movesTo, movesOut, turnSaid, turnOn, turnBehind, turnsWithin, Turns, left, refusedStep}
+use Rattle.kinds.specs.Dense.{denseAhead, denseSaid}
+use Rattle.walk.specs.declared.block_elements.Said.{Said}
 use Rattle.walk.specs.declared.block_elements.ElementStep.{ElementStep}
-use Rattle.walk.specs.declared.state.Loose.the-variants as kind
+use Rattle.kinds.specs.declared.state.Loose.the-variants as kind
 use Rattle.walk.specs.declared.state.BlockElementsIter.the-variants as walk
-use Rattle.walk.specs.declared.block_elements.ElementStep.the-variants as step
-use Rattle.walk.specs.declared.steps.Quiet.the-variants as quiet
-use Rattle.walk.specs.declared.dense_nodes.DenseStep.the-variants as dense
-use Rattle.walk.specs.declared.settle.Settled.the-variants as settled
+use Rattle.kinds.specs.declared.dense_nodes.DenseStep.the-variants as dense
 use Rattle.walk.proofs.state.BlockElementsIter.{the-type}
-use Rattle.walk.proofs.laws.Inside.{both-hold, nodes-before, dense-group, dense-next}
+use Rattle.kinds.proofs.laws.Inside.{both-hold}
+use Rattle.walk.proofs.laws.Inside.{nodes-before, dense-group, dense-next}
 use Rattle.walk.proofs.laws.Ahead.{group-cut, group-ended, group-more}
-use Rattle.walk.proofs.laws.Quiet.{said-one, near, nodes-near}
+use Rattle.walk.proofs.laws.Quiet.{said-one, nodes-near, quiet-moved, quiet-out}
 
--- ---- moves in a row
+-- ---- turns in a row
 
 -- a walk that was at `from` has moved to `here`
 pub record Walking (s : List ℕ) (r : WireBlock) (from here : BlockElementsIter) : Type 0 where
   pub so : elementsBy s r from ≡ elementsBy s r here
   pub inside : stateInside s r here ≡ true
-  pub near : left r here ≤ left r from
 
 module _ {s : List ℕ} {r : WireBlock} where
   pub walk-begins : {from : BlockElementsIter} → stateInside s r from ≡ true → Walking s r from from
-  walk-begins h = record { so = refl; inside = h; near = omega arith }
+  walk-begins h = record { so = refl; inside = h }
 
-  -- the same by what the state is known to be
-  pub walking-at : {from here known : BlockElementsIter} → Walking s r from here → here ≡ known → Walking s r from known
-  walking-at {from} w e = subst (Walking s r from) e w
+  module _ {from here : BlockElementsIter} (w : Walking s r from here) {q : Move} (k : Turns s r here q) where
+    -- a turn that says something is the step
+    pub turn-says : {e : Said} → q .turn ≡ turn.Says e → (saidThen s r e (q .next) ≡ elementsBy s r from) × (behindSaid e (q .next) ≡ walk.Ended)
+    turn-says g = (sym (ap (λ (t : Turn). turnSaid s r t (q .next)) g) ∙ k .says ∙ sym (w .so), sym (ap (λ (t : Turn). turnBehind t (q .next)) g) ∙ k .behind)
 
-  pub settles-as : {from : BlockElementsIter} {q known : Settled} → q ≡ known → Settles s r from known → Settles s r from q
-  settles-as {from} e k = subst (Settles s r from) (sym e) k
+    -- any state but plain dense nodes comes nearer
+    module _ (moves : turnsWithin r here ≡ left r here) (g : q .turn ≡ turn.Moves) where
+      tests : (stateInside s r (q .next) ≡ true) × (ltb (left r (q .next)) (turnsWithin r here) ≡ true)
+      tests = both-hold (stateInside s r (q .next)) _ (sym (ap (λ (t : Turn). turnOn s r (turnsWithin r here) t (q .next)) g) ∙ k .on)
 
-  pub settles-over : {from here : BlockElementsIter} → Walking s r from here → here ≡ walk.Ended → Settles s r from (settled.Says (step.Ended walk.Ended))
-  settles-over w e = record { says = sym (walking-at w e .so); on = refl; behind = refl }
+      pub turn-nearer : left r (q .next) < left r here
+      turn-nearer = omega (arith, moves, ltb-true (left r (q .next)) (turnsWithin r here) (tests .1))
 
-  pub settles-here : {from here : BlockElementsIter} {d : DenseNodeIter} → Walking s r from here → here ≡ walk.DenseNodes d → Settles s r from (settled.Dense d)
-  settles-here {from} {here} {d} w e =
-      let x = walking-at w e in
-      record { says = sym (x .so); on = also-true (x .inside) (le-leb (left r (walk.DenseNodes d)) (left r from) (x .near)); behind = refl }
+      pub turn-on : Walking s r from (q .next)
+      turn-on = record { so = w .so ∙ sym (k .says) ∙ ap (λ (t : Turn). turnSaid s r t (q .next)) g; inside = tests .0 }
 
-  module _ {from here : BlockElementsIter} (w : Walking s r from here) {q : Quiet} (k : Quietly s r (left r here) (elementsBy s r here) q) where
-    known : {x : Quiet} → q ≡ x → Quietly s r (left r here) (elementsBy s r here) x
-    known e = subst (Quietly s r (left r here) (elementsBy s r here)) e k
+-- ---- plain dense nodes
 
-    pub settles-says : {e : ElementStep} → q ≡ quiet.Says e → Settles s r from (settled.Says e)
-    settles-says g = let x = known g in record { says = x .says ∙ sym (w .so); on = refl; behind = x .behind }
+module _ {s : List ℕ} {r : WireBlock} {from here : BlockElementsIter} {d : DenseNodeIter} (was : Walking s r from here) (is : here ≡ walk.DenseNodes d) where
+  w : Walking s r from (walk.DenseNodes d)
+  w = subst (Walking s r from) is was
 
-    nearer : {to : BlockElementsIter} → q ≡ quiet.Moved to → left r to < left r here
-    nearer {to} g = let x = known g in ltb-true _ _ (both-hold (stateInside s r to) _ (x .on) .1)
+  group : groupInside s r (d .of) ≡ true
+  group = dense-group s r d (w .inside)
 
-    pub walks-on : {to : BlockElementsIter} → q ≡ quiet.Moved to → Walking s r from to
-    walks-on {to} g =
-        let x = known g in
-        record { so = w .so ∙ sym (x .says); inside = both-hold (stateInside s r to) _ (x .on) .0; near = omega (arith, nearer g, w .near) }
-
-  pub moves-nearer : {here known to : BlockElementsIter} {q : Quiet} → here ≡ known → Quietly s r (left r known) (elementsBy s r known) q → q ≡ quiet.Moved to → left r to < left r here
-  moves-nearer {here} {known} {to} e k g =
-      let x = subst (Quietly s r (left r known) (elementsBy s r known)) g k in
-      subst (λ (w : BlockElementsIter). left r to < left r w) (sym e) (ltb-true _ _ (both-hold (stateInside s r to) _ (x .on) .1))
-
--- ---- a step, once the walk has settled
-
-module _ {s : List ℕ} {r : WireBlock} {from here : BlockElementsIter} (w : Walking s r from here) {q : Settled} (k : Settles s r here q) where
-  settled-as : {x : Settled} → q ≡ x → Settles s r here x
-  settled-as e = subst (Settles s r here) e k
-
-  pub settled-says : {e : ElementStep} → q ≡ settled.Says e → (elementSaid s r e ≡ elementsBy s r from) × (elementBehind e ≡ walk.Ended)
-  settled-says g = let x = settled-as g in (x .says ∙ sym (w .so), x .behind)
-
-  pub settled-near : {d : DenseNodeIter} → q ≡ settled.Dense d → left r (walk.DenseNodes d) ≤ left r here
-  settled-near {d} g = let x = settled-as g in leb-true _ _ (both-hold (denseInside s r d) _ (x .on) .1)
-
-  pub settled-dense : {d : DenseNodeIter} → q ≡ settled.Dense d → Walking s r from (walk.DenseNodes d)
-  settled-dense {d} g =
-      let x = settled-as g in
-      record { so = w .so ∙ sym (x .says); inside = both-hold (denseInside s r d) _ (x .on) .0; near = omega (arith, settled-near g, w .near) }
-
-module _ {s : List ℕ} {r : WireBlock} {from : BlockElementsIter} {d : DenseNodeIter} (w : Walking s r from (walk.DenseNodes d)) where
-  pub dense-refuses : {n : Refusal} → denseAhead s (d .columns) ≡ end (cut n) → end (cut n) ≡ elementsBy s r from
-  dense-refuses e = sym (w .so ∙ group-cut _ _ _ e)
+  pub dense-refuses : {n : Refusal} {e : ElementStep} → e ≡ refusedStep n → denseAhead s (d .columns) ≡ end (cut n) → (elementSaid s r e ≡ elementsBy s r from) × (elementBehind e ≡ walk.Ended)
+  dense-refuses refuses k = (ap (elementSaid s r) refuses ∙ sym (w .so ∙ group-cut _ _ _ k), ap elementBehind refuses)
 
   pub dense-says : (next : DenseColumns) {e : ElementStep} → isRecordInside s r ≡ true → columnsInside s next ≡ true → e ≡ denseSaidBy d next → denseAhead s (d .columns) ≡ denseSaid s (d .columns) (dense.Node next)
       → (elementSaid s r e ≡ elementsBy s r from) × (elementBehind e ≡ walk.Ended)
-  dense-says next tables h is e = (
-    ap (elementSaid s r) is ∙ said-one s r tables (denseElement (next .rows) (d .columns .keyvals) node.Unread) (walk.DenseNodes (record { of = d .of; message = d .message; columns = next })) refl (dense-next s r d (w .inside) next h) (w .so ∙ group-more _ _ _ e),
-    ap elementBehind is,
+  dense-says next tables h says k = (
+    ap (elementSaid s r) says
+        ∙ said-one s r tables (denseElement (next .rows) (d .columns .keyvals) node.Unread) (walk.DenseNodes (record { of = d .of; message = d .message; columns = next })) refl refl (dense-next s r d (w .inside) next h) (w .so ∙ group-more _ _ _ k),
+    ap elementBehind says,
   )
 
-  module _ {to : BlockElementsIter} (is : to ≡ beforeKind false (d .of) kind.Nodes) where
-    pub dense-nearer : left r to < left r (walk.DenseNodes d)
-    dense-nearer = subst (λ (x : BlockElementsIter). left r x < left r (walk.DenseNodes d)) (sym is) (nodes-near s r false (d .of) (dense-group s r d (w .inside)))
+  module _ {to : BlockElementsIter} (comes : to ≡ beforeKind false (d .of) kind.Nodes) where
+    pub dense-nearer : left r to < left r here
+    dense-nearer =
+        subst (λ (x : BlockElementsIter). left r to < left r x) (sym is)
+        (subst (λ (x : BlockElementsIter). left r x < left r (walk.DenseNodes d)) (sym comes) (nodes-near s r false (d .of) group))
 
     pub dense-on : denseAhead s (d .columns) ≡ end ended → Walking s r from to
     dense-on e =
-        subst (Walking s r from) (sym is)
-        (record {
-          so = w .so ∙ group-ended _ _ _ e;
-          inside = nodes-before s r false (d .of) (dense-group s r d (w .inside));
-          near = omega (arith, nodes-near s r false (d .of) (dense-group s r d (w .inside)), w .near);
-        })
+        subst (Walking s r from) (sym comes) (record { so = w .so ∙ group-ended _ _ _ e; inside = nodes-before s r false (d .of) group })
+
+-- ---- one turn, by the state
+
+module _ (s : List ℕ) (r : WireBlock) {w : BlockElementsIter} {q : Move} where
+  pub turns-as : {known : BlockElementsIter} → w ≡ known → Turns s r known q → Turns s r w q
+  turns-as e k = subst (λ (x : BlockElementsIter). Turns s r x q) (sym e) k
+
+  pub turns-out : w ≡ walk.Ended → q ≡ movesOut → Turns s r w q
+  turns-out e is = turns-as e (quiet-out s r is refl)
+
+  -- plain dense nodes stay
+  pub turns-here : {d : DenseNodeIter} → w ≡ walk.DenseNodes d → q ≡ movesTo w → stateInside s r w ≡ true → Turns s r w q
+  turns-here {d} e is h = turns-as e (quiet-moved s r (walk.DenseNodes d) (is ∙ ap movesTo e) (sym (ap (stateInside s r) e) ∙ h) (omega arith) refl)
 
 -- ---- 14 before anything is read
 
@@ -143,6 +125,14 @@ module _ (s : List ℕ) (r : WireBlock) (w : BlockElementsIter) where
     pub both-inside : stateInside s r w ≡ true → elementsBy s r w ≡ testedFrom s r w
     unfolding testedFrom
     both-inside h = simp (tables, h)
+
+-- only plain dense nodes stay
+pub not-dense : (r : WireBlock) (w : BlockElementsIter) → OneOf (0 ∷ 1 ∷ 3 ∷ 4 ∷ []) (tagOf the-type w) → turnsWithin r w ≡ left r w
+not-dense r walk.Ended h = refl
+not-dense r (walk.Between b) h = refl
+not-dense r (walk.DenseNodes d) h = absurd (⊎-elim (λ e. omega arith) (λ o. ⊎-elim (λ e. omega arith) (λ p. ⊎-elim (λ e. omega arith) (λ e. omega arith) p) o) h)
+not-dense r (walk.FullDenseNodes d) h = refl
+not-dense r (walk.Messages m) h = refl
 
 -- only an ended walk is not tested
 pub not-ended : (s : List ℕ) (r : WireBlock) (w : BlockElementsIter) → OneOf (1 ∷ 2 ∷ 3 ∷ 4 ∷ []) (tagOf the-type w) → testedFrom s r w ≡ elementsFrom s r w

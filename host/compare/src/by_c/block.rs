@@ -48,6 +48,21 @@ pub fn scan(bytes: &[u8], len: u64, room: u64) -> String {
     out.done()
 }
 
+/// The block scanned through C in a buffer of the size that is always enough,
+/// which is then cut behind the tables, and the record's numbers; or the
+/// scan's refusal.
+pub fn scanned(bytes: &[u8]) -> Result<(Vec<u8>, Numbers), u32> {
+    let mut buffer = scan_buffer(bytes, (proved::BUFFER_TIMES * bytes.len()) as u64);
+    let mut out = [0; proved::RECORD_SIZE];
+    let code = proved::scan(&mut buffer, bytes.len(), &mut out);
+    if code != proved::OK {
+        return Err(code);
+    }
+    let record = record::numbers(&out);
+    buffer.truncate(record::read(&record).end() as usize);
+    Ok((buffer, record))
+}
+
 /// In the order of the other sides, which leave the block's length out.
 fn put_record(record: &Numbers, out: &mut Words) {
     for signed in [GRANULARITY, DATE_GRANULARITY, LAT_OFFSET, LON_OFFSET] {

@@ -1,12 +1,12 @@
 //! The check through C, of a block that was scanned through C.
 
 use super::around::BEHIND;
+use super::block::scanned;
 use super::faults::Faults;
 use super::lent::Lent;
 use super::record::{self, BLOCK, ENTRY, Numbers, STRING_TABLE, STRINGS};
 use super::shape::bytes as bytes_of;
 use super::tables;
-use crate::question::scan_buffer;
 use crate::text::Words;
 
 /// The number that the check gives in a buffer just large enough. In a longer
@@ -31,21 +31,6 @@ pub fn answer(bytes: &[u8]) -> String {
     lent.faults.put(&mut out);
     tables::put(&buffer, &numbers, &mut out);
     out.done()
-}
-
-/// The block scanned through C in a buffer of the size that is always enough,
-/// which is then cut behind the tables, and the record's numbers; or the
-/// scan's refusal.
-fn scanned(bytes: &[u8]) -> Result<(Vec<u8>, Numbers), u32> {
-    let mut buffer = scan_buffer(bytes, (proved::BUFFER_TIMES * bytes.len()) as u64);
-    let mut out = [0; proved::RECORD_SIZE];
-    let code = proved::scan(&mut buffer, bytes.len(), &mut out);
-    if code != proved::OK {
-        return Err(code);
-    }
-    let record = record::numbers(&out);
-    buffer.truncate(record::read(&record).end() as usize);
-    Ok((buffer, record))
 }
 
 /// A buffer that is lent to the check again and again.

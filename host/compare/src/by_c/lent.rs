@@ -50,6 +50,25 @@ impl Lent {
         self.now == self.before
     }
 
+    /// Whether the bytes of a range of the slice are as they were.
+    pub fn is_kept(&self, range: Range<usize>) -> bool {
+        let range = GUARD + range.start..GUARD + range.end;
+        self.now[range.clone()] == self.before[range]
+    }
+
+    /// Takes the bytes of a range of the slice as they are now, to be lent
+    /// again.
+    pub fn keep(&mut self, range: Range<usize>) {
+        let range = GUARD + range.start..GUARD + range.end;
+        self.before[range.clone()].copy_from_slice(&self.now[range]);
+    }
+
+    /// Undoes what changed in a range of the slice.
+    pub fn undo(&mut self, range: Range<usize>) {
+        let range = GUARD + range.start..GUARD + range.end;
+        self.now[range.clone()].copy_from_slice(&self.before[range]);
+    }
+
     /// Whether no byte changed but those of a range of the slice.
     pub fn is_unchanged_but(&self, range: Range<usize>) -> bool {
         let (start, end) = (GUARD + range.start, GUARD + range.end);

@@ -4,26 +4,37 @@
 //! Where one of them goes wrong, or a lent byte changes that must not, the
 //! answer says so at its end, and then it equals no answer of the reader.
 
+mod ahead;
 mod around;
 mod block;
 mod check;
 mod constants;
+mod ends;
 mod faults;
+mod forged;
+mod items;
 mod lent;
 mod messages;
 mod record;
+mod refusals;
 mod shape;
+mod slotted;
+mod starts;
+mod states;
 mod tables;
 mod told;
 mod views;
+mod walk;
+
+use reader::{Mode, Record};
 
 use crate::question::{Ask, Places};
+use crate::tried::Tried;
 
 /// The library that is linked.
 pub const ARCHIVE: Option<&str> = Some(proved::ARCHIVE);
 
-/// The answer in words; none where C has no such question: the leaf and the
-/// walks.
+/// The answer in words; none where C has no such question: the leaf.
 pub fn answer(ask: Ask, bytes: &[u8]) -> Option<String> {
     let text = match ask {
         Ask::Scan { len, room } => block::scan(bytes, len, room),
@@ -44,9 +55,24 @@ pub fn answer(ask: Ask, bytes: &[u8]) -> Option<String> {
         Ask::Messages { field } => messages::answer(bytes, field),
         Ask::Check => check::answer(bytes),
         Ask::Varint { .. } | Ask::Field { .. } | Ask::Column => return None,
-        Ask::Plain | Ask::Full => return None,
+        Ask::Plain => walk::answer(bytes, Mode::Plain),
+        Ask::Full => walk::answer(bytes, Mode::Full),
     };
     Some(text)
+}
+
+/// A walk over a buffer by a record, whether a scan left them so or not.
+pub fn walked(buffer: &[u8], record: &Record, mode: Mode) -> Option<String> {
+    Some(walk::walked(buffer, &record::of(record), mode))
+}
+
+/// States that no walk over the block left, each number of each at its edges;
+/// with a seed some of them at random.
+pub fn forged(bytes: &[u8], seed: Option<u64>) -> Vec<Tried> {
+    match seed {
+        None => forged::all(bytes),
+        Some(seed) => forged::some(bytes, seed),
+    }
 }
 
 /// `get` reads nothing else of a record.

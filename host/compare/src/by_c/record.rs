@@ -7,6 +7,8 @@ use crate::question::Places;
 /// How many numbers a record has.
 const RECORD: usize = proved::RECORD_SIZE / NUMBER;
 pub type Numbers = [u64; RECORD];
+/// The numbers of no record in particular.
+pub const NONE: Numbers = [0; RECORD];
 
 /// Which of them is which.
 pub const BLOCK: usize = proved::RECORD_BLOCK / NUMBER;
@@ -33,7 +35,7 @@ pub fn at(places: Places) -> Numbers {
         (GRANULARITY, 100),
         (DATE_GRANULARITY, 1000),
     ];
-    with(&[0; RECORD], &set)
+    with(&NONE, &set)
 }
 
 /// The numbers in a record's bytes.
@@ -63,6 +65,22 @@ pub fn read(numbers: &Numbers) -> reader::Record {
         lat_offset: numbers[LAT_OFFSET] as i64,
         lon_offset: numbers[LON_OFFSET] as i64,
     }
+}
+
+/// The record's numbers, from the simple reader's.
+pub fn of(record: &reader::Record) -> Numbers {
+    let set = [
+        (BLOCK, record.block_len),
+        (STRINGS, record.string_count),
+        (STRING_TABLE, record.string_table),
+        (GROUPS, record.group_count),
+        (GROUP_TABLE, record.group_table),
+        (GRANULARITY, i64::from(record.granularity) as u64),
+        (DATE_GRANULARITY, i64::from(record.date_granularity) as u64),
+        (LAT_OFFSET, record.lat_offset as u64),
+        (LON_OFFSET, record.lon_offset as u64),
+    ];
+    with(&NONE, &set)
 }
 
 /// A slice that is longer than the record, whose scalars are at the ends of

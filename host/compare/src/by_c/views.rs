@@ -13,7 +13,7 @@ use Item::{Number, Optional, Part};
 
 pub struct View {
     read: InRange,
-    shape: Shape,
+    pub shape: Shape,
 }
 
 impl View {

@@ -34,13 +34,14 @@ pub fn answer(ask: Ask, bytes: &[u8]) -> String {
         Ask::Check => scanned(bytes, |buffer, record| {
             number(reader::check(buffer, record)).to_string()
         }),
-        Ask::Plain => scanned(bytes, |buffer, record| {
-            walk::walk(buffer, record, Mode::Plain)
-        }),
-        Ask::Full => scanned(bytes, |buffer, record| {
-            walk::walk(buffer, record, Mode::Full)
-        }),
+        Ask::Plain => scanned(bytes, |buffer, record| walked(buffer, record, Mode::Plain)),
+        Ask::Full => scanned(bytes, |buffer, record| walked(buffer, record, Mode::Full)),
     }
+}
+
+/// A walk over a buffer by a record, whether a scan left them so or not.
+pub fn walked(buffer: &[u8], record: &Record, mode: Mode) -> String {
+    walk::walk(buffer, record, mode)
 }
 
 /// The number of the scan, or that of the check where the scan took the

@@ -1,32 +1,14 @@
--- `put_numbers` tests the room, and then puts each number behind the last.
-use Prim.Native.Nat.{_-_}
-use native.Mathlib.Omega.{arith}
-use lib.ListN.{length}
+-- `put_numbers` puts them at the slice's start.
+use mathlib.Core.Path.{_∙_}
 use borrow.Author.Needs.{needs}
-use Rattle.answers.proofs.laws.Words.{Putting, put-none, put-one, put-length, put-all, put-short}
+use Rattle.answers.proofs.laws.Words.{from-start}
 use Rattle.answers.proofs.words.put_numbers.Statement.{statement}
 use Rattle.answers.proofs.words.put_numbers.Tie as tie
-
-abbrev Inv-loop : tie.InvT-loop
-Inv-loop out₀ numbers i₀ out i = Putting out₀ numbers i out
-
-abbrev μ-loop : tie.MeasureT-loop
-μ-loop out₀ numbers i₀ out i = length numbers - i
 
 pub put-numbers-spec : {M : Type 1} → statement M
 put-numbers-spec =
     tie.close
     (tie.spec
-    Inv-loop
-    μ-loop
-    (λ c. let a = c .before .before .before .args in put-short (a .out .now) (a .numbers .now) (omega arith))
-    (λ c. put-none (omega arith))
-    (λ c. omega arith)
-    (λ c. search needs)
-    (λ c. search needs)
     (λ c κs. search needs)
     (λ c. search needs)
-    (λ c. search needs)
-    (λ c. put-one (c .before .before .before .before .before .before .loop .inv) (omega arith) (c .before .before .write-u64 .ensures))
-    (λ c. put-length (c .before .loop .inv))
-    (λ c. put-all (c .before .loop .inv) (omega arith)))
+    (λ c. let a = c .before .before .before .before .before .before .args in c .before .before .put-at .ensures ∙ from-start (a .out .now) (a .numbers .now)))

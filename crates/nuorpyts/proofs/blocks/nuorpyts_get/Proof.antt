@@ -7,8 +7,9 @@ use Rattle.protobuf.proofs.laws.Read.{says}
 use Rattle.answers.specs.Words.{filled}
 use Rattle.answers.specs.Record.{recordOf}
 use Rattle.lookup.specs.declared.by_number.Got.{Got}
+use Rattle.lookup.specs.Lookup.{getAt}
 use Rattle.nuorpyts.specs.Block.{getIn, gotCode, gotAfter}
-use Rattle.nuorpyts.proofs.laws.Block.{get-no-record, get-with-record, got-short, got-answer}
+use Rattle.nuorpyts.proofs.laws.Block.{got-no-record, got-with-record, got-short, got-answer}
 use Rattle.nuorpyts.proofs.laws.Scanned.{GetClauses, get-clauses}
 use Rattle.nuorpyts.proofs.blocks.nuorpyts_get.Statement.{statement}
 use Rattle.nuorpyts.proofs.blocks.nuorpyts_get.Tie as tie
@@ -23,7 +24,7 @@ answers c e g k =
     let r = c .before .before in
     let room = r .before .before .before .if1 .left in
     let a = entered c .args in
-    let asked = get-with-record (a .buffer .now) (a .rec .now) (a .index) (says recordOf (r .before .before .record-in .ensures) (r .r .given .1)) (c .get .ensures .0) e in
+    let asked = got-with-record (a .rec .now) (λ r. getAt (a .buffer .now) r (a .index)) (says recordOf (r .before .before .record-in .ensures) (r .r .given .1)) (c .get .ensures .0) e in
     get-clauses (a .buffer .now) (a .rec .now) (a .out .now) (a .index) (entered c .good .0 .0) (got-answer (a .out .now) room asked g k)
 
 pub nuorpyts-get-spec : {M : Type 1} → statement M
@@ -50,7 +51,7 @@ nuorpyts-get-spec =
     let p = r .before .before .before .before .before in
     let a = p .args in
     get-clauses (a .buffer .now) (a .rec .now) (a .out .now) (a .index) (p .good .0 .0)
-    (got-answer (a .out .now) (r .before .if1 .left) (get-no-record (a .buffer .now) (a .rec .now) (a .index) (says recordOf (r .record-in .ensures) (c .enum-told .given .1))) refl refl))
+    (got-answer (a .out .now) (r .before .if1 .left) (got-no-record (a .rec .now) (λ r. getAt (a .buffer .now) r (a .index)) (says recordOf (r .record-in .ensures) (c .enum-told .given .1))) refl refl))
     (λ c. let g = c .before .before .before .before in answers g (c .before .before .got .given .1) (c .number .ensures) refl)
     (λ c. answers (c .before .before) (c .enum-told2 .given .1) refl refl)
     (λ c. search needs)

@@ -11,14 +11,14 @@ use Rattle.walk.proofs.inside.state_inside.Tie as tie
 returns : tie.Need-returns
 returns c =
     let b = c .before in
-    let s = b .before .before .before .before in
+    let s = b .before .before in
     let a = s .before .before .before .args in
     first-fails _ (refuted (b .dense-inside2 .ensures) (c .if1 .taken)) ∙ ap (stateInside (now (a .buffer)) (a .block)) (sym (s .state3 .given .1))
 
 returns-2 : tie.Need-returns-2
 returns-2 c =
     let b = c .before in
-    let s = b .before .before .before in
+    let s = b .before .before in
     let a = s .before .before .before .args in
     first-fails _ (refuted (b .group-inside .ensures) (c .if2 .taken)) ∙ ap (stateInside (now (a .buffer)) (a .block)) (sym (s .state4 .given .1))
 
@@ -42,17 +42,17 @@ returns-5 c =
 returns-6 : tie.Need-returns-6
 returns-6 c =
     let b = c .before .before in
-    let s = b .before .before .before .before in
+    let s = b .before .before in
     let a = s .before .before .before .args in
     first-holds (confirmed (b .dense-inside2 .ensures) (c .before .if1 .left)) (c .are-infos-inside .ensures)
     ∙ ap (stateInside (now (a .buffer)) (a .block)) (sym (s .state3 .given .1))
 
 returns-7 : tie.Need-returns-7
 returns-7 c =
-    let b = c .before .before .before in
-    let s = b .before .before .before in
+    let b = c .before .before in
+    let s = b .before .before in
     let a = s .before .before .before .args in
-    first-holds (confirmed (b .group-inside .ensures) (c .before .before .if2 .left)) refl ∙ ap (stateInside (now (a .buffer)) (a .block)) (sym (s .state4 .given .1))
+    first-holds (confirmed (b .group-inside .ensures) (c .before .if2 .left)) refl ∙ ap (stateInside (now (a .buffer)) (a .block)) (sym (s .state4 .given .1))
 
 pub state-inside-spec : {M : Type 1} → statement M
 state-inside-spec =

@@ -26,10 +26,10 @@ behind-kind-spec =
     (tie.spec
     (λ c. search needs)
     (λ c κs. search needs)
+    returns
     (λ c. search needs)
     (λ c κs. search needs)
-    (λ c. search needs)
-    (λ c. search needs)
-    returns
     returns-2
+    (λ c. search needs)
+    (λ c. search needs)
     returns-3)

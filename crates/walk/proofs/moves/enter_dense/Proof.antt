@@ -3,14 +3,14 @@ use borrow.Author.Needs.{needs}
 use Rattle.protobuf.proofs.laws.Read.{says}
 use Rattle.views.specs.DenseNodes.{parsedDenseNodes}
 use Rattle.walk.proofs.laws.Ahead.{behind-refused}
-use Rattle.walk.proofs.laws.Quiet.{refuses}
+use Rattle.walk.proofs.laws.Quiet.{quiet-refused}
 use Rattle.walk.proofs.laws.Enter.{nodes-inside, enters-dense, enters-full}
 use Rattle.walk.proofs.moves.enter_dense.Statement.{statement}
 use Rattle.walk.proofs.moves.enter_dense.Tie as tie
 
 enter-infos-requires : tie.Need-enter-infos-requires
 enter-infos-requires c κs =
-    let k = c .before .before .before in
+    let k = c .before .before in
     let p = k .before .before .before in
     let e = p .before .before in
     let a = e .args in
@@ -18,12 +18,13 @@ enter-infos-requires c κs =
 
 returns : tie.Need-returns
 returns c =
-    refuses _ (behind-refused _ _ (says parsedDenseNodes (c .before .before .before .parse .ensures) (c .before .p .given .1)))
+    let k = c .before in
+    quiet-refused _ _ (c .move-refused .ensures) (behind-refused _ _ (says parsedDenseNodes (k .before .before .before .parse .ensures) (k .before .p .given .1)))
 
 returns-2 : tie.Need-returns-2
 returns-2 c =
     let t = c .before in
-    let k = t .before .before .before in
+    let k = t .before .before in
     let p = k .before .before .before in
     let e = p .before .before in
     let a = e .args in
@@ -31,11 +32,12 @@ returns-2 c =
 
 returns-3 : tie.Need-returns-3
 returns-3 c =
-    let k = c .before .before .before in
+    let t = c .before in
+    let k = t .before .before in
     let p = k .before .before .before in
     let e = p .before .before in
     let a = e .args in
-    enters-dense (a .buffer .now) (a .block) (e .good .0 .0) (a .of) (a .message) (e .pre) (c .before .start-columns .ensures) (says parsedDenseNodes (p .parse .ensures) (k .before .p2 .given .1)) (c .if1 .left)
+    enters-dense (a .buffer .now) (a .block) (e .good .0 .0) (a .of) (a .message) (e .pre) (t .before .start-columns .ensures) (says parsedDenseNodes (p .parse .ensures) (k .before .p2 .given .1)) (t .if1 .left) (c .move-to .ensures)
 
 pub enter-dense-spec : {M : Type 1} → statement M
 enter-dense-spec =
@@ -43,9 +45,11 @@ enter-dense-spec =
     (tie.spec
     (λ c κs. search needs)
     (λ c. search needs)
+    (λ c κs. search needs)
+    returns
     (λ c. search needs)
     (λ c κs. search needs)
     enter-infos-requires
-    returns
     returns-2
+    (λ c κs. search needs)
     returns-3)

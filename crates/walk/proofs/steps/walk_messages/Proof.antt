@@ -3,20 +3,16 @@ use borrow.Author.Needs.{needs}
 use native.Mathlib.Omega.{arith}
 use mathlib.Core.Path.{sym, ap, _∙_}
 use Rattle.protobuf.proofs.laws.Read.{says}
-use Rattle.walk.specs.Said.{looseSaid, placeInside}
+use Rattle.kinds.specs.Said.{looseSaid, placeInside}
+use Rattle.walk.specs.Moves.{movesTo}
 use Rattle.walk.proofs.laws.Inside.{group-below}
-use Rattle.walk.proofs.laws.Steps.{messages-group, messages-place, messages-refuse, messages-move, messages-say}
+use Rattle.walk.proofs.laws.Steps.{messages-group, messages-refuse, messages-move, messages-say}
 use Rattle.walk.proofs.steps.walk_messages.Statement.{statement}
 use Rattle.walk.proofs.steps.walk_messages.Tie as tie
 
-next-loose-requires : tie.Need-next-loose-requires
-next-loose-requires c κs =
-    let e = c .before .before in
-    messages-place (e .args .buffer .now) (e .args .block) (e .pre .0) (e .args .m) (e .pre .1)
-
 behind-kind-requires : tie.Need-behind-kind-requires
 behind-kind-requires c κs =
-    let e = c .before .before .before .before .before in
+    let e = c .before .before .before .before in
     let a = e .args in
     omega (arith, group-below (a .buffer .now) (a .block) (a .m .of) (messages-group (a .buffer .now) (a .block) (e .pre .0) (a .m) (e .pre .1)))
 
@@ -24,32 +20,37 @@ returns : tie.Need-returns
 returns c =
     let k = c .before in
     let n = k .before .before .before in
-    let e = n .before .before .before in
-    messages-refuse (e .args .buffer .now) (e .args .block) (e .pre .0) (e .args .m) (e .pre .1) (c .refuse .ensures) (says (looseSaid _ _) (n .next-loose .ensures .0) (k .before .r .given .1))
+    let e = n .before .before in
+    messages-refuse (e .args .buffer .now) (e .args .block) (e .pre .0) (e .args .m) (e .pre .1) (c .move-refused .ensures) (says (looseSaid _ _) (n .next-loose .ensures .0) (k .before .r .given .1))
 
 returns-2 : tie.Need-returns-2
 returns-2 c =
-    let k = c .before in
+    let b = c .before in
+    let k = b .before in
     let n = k .before .before in
-    let e = n .before .before .before in
-    messages-move (e .args .buffer .now) (e .args .block) (e .pre .0) (e .args .m) (e .pre .1) (c .behind-kind .ensures) (says (looseSaid _ _) (n .next-loose .ensures .0) (k .enum-told .given .1))
+    let e = n .before .before in
+    messages-move (e .args .buffer .now) (e .args .block) (e .pre .0) (e .args .m) (e .pre .1) (c .move-to .ensures ∙ ap movesTo (b .behind-kind .ensures)) (says (looseSaid _ _) (n .next-loose .ensures .0) (k .enum-told .given .1))
 
 returns-3 : tie.Need-returns-3
 returns-3 c =
-    let n = c .before .before .before in
-    let e = n .before .before .before in
-    messages-say (e .args .buffer .now) (e .args .block) (e .pre .0) (e .args .m) (e .pre .1) _ _ _ (sym (ap (placeInside _) (c .before .r2 .given .1)) ∙ n .next-loose .ensures .1) (says (looseSaid _ _) (n .next-loose .ensures .0) (c .before .r2 .given .1))
+    let k = c .before in
+    let n = k .before .before .before in
+    let e = n .before .before in
+    messages-say (e .args .buffer .now) (e .args .block) (e .pre .0) (e .args .m) (e .pre .1) _ _ _ (c .move-with .ensures) (sym (ap (placeInside _) (k .before .r2 .given .1)) ∙ n .next-loose .ensures .1)
+    (says (looseSaid _ _) (n .next-loose .ensures .0) (k .before .r2 .given .1))
 
 pub walk-messages-spec : {M : Type 1} → statement M
 walk-messages-spec =
     tie.close
     (tie.spec
-    next-loose-requires
-    (λ c. search needs)
     (λ c κs. search needs)
     (λ c. search needs)
-    behind-kind-requires
-    (λ c. search needs)
+    (λ c κs. search needs)
     returns
+    (λ c. search needs)
+    behind-kind-requires
+    (λ c κs. search needs)
     returns-2
+    (λ c. search needs)
+    (λ c κs. search needs)
     returns-3)

@@ -4,7 +4,9 @@ use Rattle.walk.proofs.state.BlockElementsIter.next.Statement.{statemen
 use Rattle.walk.proofs.state.BlockElementsIter.next.Tie as tie
 
 returns : tie.Need-returns
-returns c = record { says = c .step .ensures .says; behind = c .step .ensures .behind }
+returns c =
+    let told = c .step .ensures in
+    (record { says = told .0 .says; behind = told .0 .behind }, told .1)
 
 pub next-spec : {M : Type 1} → statement M
 next-spec = tie.close (tie.spec (λ c κs. search needs) returns)

@@ -1,0 +1,8 @@
+-- One file of laws for each subject.
+pub mod Calls
+pub mod Slots
+pub mod References
+pub mod Tags
+pub mod Members
+pub mod Starts
+pub mod Elements

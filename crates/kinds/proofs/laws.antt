@@ -1,0 +1,5 @@
+-- One file of laws for each subject.
+pub mod Inside
+pub mod Dense
+pub mod Viewed
+pub mod Loose

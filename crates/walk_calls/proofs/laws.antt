@@ -1,0 +1,3 @@
+-- One file of laws for each subject.
+pub mod Steps
+pub mod Chain
