@@ -5,3 +5,5 @@ pub mod Walks
 pub mod Scanned
 pub mod Check
 pub mod ScanLeft
+pub mod Chains
+pub mod ChainTies

@@ -3,4 +3,5 @@ pub mod Block
 pub mod Group
 pub mod Check
 pub mod Walks
+pub mod Chains
 pub mod Worked

@@ -64,7 +64,7 @@ scan-read {s} {rec} {b} {n} fits h =
 -- ---- strings, roles and groups by number
 
 module _ {s rec : List ℕ} (fits : length s < 2 ^ 64) {b : List ℕ} {n : ℕ} (h : Scanned-in s rec b n) where
-  as-scanned : Scanned-as s (h .scan .block) b n
+  pub as-scanned : Scanned-as s (h .scan .block) b n
   as-scanned = record { scan = h .scan; so = h .so; buffer = h .buffer; meta = refl }
 
   own-string : (index : ℕ) → getIn s rec index ≡ stringOf (take n b) index
