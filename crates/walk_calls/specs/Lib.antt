@@ -1,3 +1,4 @@
 -- What a call of the walk hands out through C, and what chains of calls do.
 pub mod Steps
 pub mod Chain
+pub mod Worked
