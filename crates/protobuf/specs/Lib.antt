@@ -5,5 +5,6 @@ pub mod Varint
 pub mod Tag
 pub mod Stream
 pub mod Column
+pub mod Short
 pub mod Answers
 pub mod Worked

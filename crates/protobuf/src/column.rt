@@ -5,6 +5,7 @@ ghost use lib.ListN.{length, take};
 ghost use Rattle.protobuf.specs.Varint.{varint};
 ghost use Rattle.protobuf.specs.Column.{orCut, stepAt};
 ghost use Rattle.protobuf.specs.Answers.{stepBy, over};
+ghost use Rattle.protobuf.specs.Short.{Short};
 use crate::refusal::Refusal;
 use crate::varint::Varint;
 use crate::varint::read_varint;
@@ -82,4 +83,62 @@ pub fn next_value(s: &[u8], column: Column) -> Step
         };
     }
     long_value(s, at, end)
+}
+
+// The next value of a column by a short way, for loops that fall back on `next_value`: where it has at most three bytes, 16 times the value
+// and how many bytes it has, else 0. One word comes back in a register, and the way is short enough to stand in its callers' loops.
+pub fn short_value(s: &[u8], at: usize, end: usize) -> u64
+    ensures { λ r. ⌜ Short (stepAt (now (s .entry)) at end) at r ⌝ }
+{
+    if s.len() < end {
+        return 0;
+    }
+    if end <= at {
+        return 0;
+    }
+    let first = s[at];
+    if first < 128 {
+        return 16 * (first as u64) + 1;
+    }
+    if end - at < 3 {
+        return 0;
+    }
+    let second = s[at + 1];
+    if second < 128 {
+        return 16 * ((first % 128) as u64 + 128 * (second as u64)) + 2;
+    }
+    let third = s[at + 2];
+    if third < 128 {
+        return 16 * ((first % 128) as u64 + 128 * ((second % 128) as u64 + 128 * (third as u64)))
+            + 3;
+    }
+    0
+}
+
+// The same where values are often longer: 0 where it is none that sixteen times fits 64 bits.
+pub fn wide_value(s: &[u8], at: usize, end: usize) -> u64
+    ensures { λ r. ⌜ Short (stepAt (now (s .entry)) at end) at r ⌝ }
+{
+    if s.len() < end {
+        return 0;
+    }
+    if end <= at {
+        return 0;
+    }
+    let first = s[at];
+    if first < 128 {
+        return 16 * (first as u64) + 1;
+    }
+    let r = read_varint(&s[..end], at);
+    let Varint::Value { value, next } = r else {
+        return 0;
+    };
+    let bytes = next - at;
+    if 15 < bytes {
+        return 0;
+    }
+    if 0xFFF_FFFF_FFFF_FFFF < value {
+        return 0;
+    }
+    16 * value + (bytes as u64)
 }

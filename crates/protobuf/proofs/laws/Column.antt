@@ -1,6 +1,6 @@
 -- The laws of a column that readers use: the values from p are the value at p and the values from the next place; what one step of a
 -- reader finds.
-use Prim.Native.Nat.{ℕ, _+_, _*_, _%_, _≤_, _<_}
+use Prim.Native.Nat.{ℕ, _+_, _-_, _*_, _/_, _%_, _≤_, _<_}
 use mathlib.Core.Path.{_≡_, refl, sym, ap, _∙_}
 use mathlib.Core.List.{List}
 use mathlib.Core.Bool.{Bool, true, false}
@@ -13,10 +13,11 @@ use Rattle.protobuf.specs.declared.refusal.Refusal.the-variants.{Outside
 use Rattle.protobuf.specs.Read.{Read, taken, refused}
 use Rattle.numbers.specs.Choose.{choose}
 use Rattle.protobuf.specs.Varint.{varint}
-use Rattle.protobuf.specs.Stream.{last, item, follow}
-use Rattle.protobuf.specs.Column.{ended, cut, orCut, valueAt, columnFrom, stepAt}
+use Rattle.protobuf.specs.Stream.{Item, last, item, follow}
+use Rattle.protobuf.specs.Column.{ColumnEnd, ended, cut, orCut, valueAt, columnFrom, stepAt}
+use Rattle.protobuf.specs.Short.{Short}
 use Rattle.protobuf.proofs.laws.Read.{reached}
-use Rattle.protobuf.proofs.laws.Varint.{one-byte, two-bytes, varint-reach}
+use Rattle.protobuf.proofs.laws.Varint.{one-byte, two-bytes, three-bytes, varint-reach}
 use Rattle.protobuf.proofs.laws.Stream.{Forward, unroll}
 
 -- ---- the value at a place
@@ -65,6 +66,31 @@ module _ (s : List ℕ) (p e : ℕ) where
         let second : getD (take e s) (p + 1) 0 ≡ getD s (p + 1) 0 = getD-take e s (p + 1) 0 before in
         step-by (λ eq. omega arith) (two-bytes (take e s) p (omega (arith, length-take-le e s k)) (omega (arith, first)) (omega (arith, second)))
         ∙ λ i. item (first i % 128 + 128 * second i) (p + 2)
+
+    pub step-three : p + 2 < e → 128 ≤ getD s p 0 → 128 ≤ getD s (p + 1) 0 → getD s (p + 2) 0 < 128
+        → stepAt s p e ≡ item (getD s p 0 % 128 + 128 * (getD s (p + 1) 0 % 128 + 128 * getD s (p + 2) 0)) (p + 3)
+    step-three before a b c =
+        let first : getD (take e s) p 0 ≡ getD s p 0 = getD-take e s p 0 (omega arith) in
+        let second : getD (take e s) (p + 1) 0 ≡ getD s (p + 1) 0 = getD-take e s (p + 1) 0 (omega arith) in
+        let third : getD (take e s) (p + 2) 0 ≡ getD s (p + 2) 0 = getD-take e s (p + 2) 0 before in
+        step-by (λ eq. omega arith) (three-bytes (take e s) p (omega (arith, length-take-le e s k)) (omega (arith, first)) (omega (arith, second)) (omega (arith, third)))
+        ∙ λ i. item (first i % 128 + 128 * (second i % 128 + 128 * third i)) (p + 3)
+
+-- ---- a value by the short way
+
+pub short-none : {i : Item ℕ ColumnEnd} {p : ℕ} → Short i p 0
+short-none = record { says = λ h. absurd (h refl) }
+
+pub short-some : {i : Item ℕ ColumnEnd} {p : ℕ} (v n : ℕ) → n < 16 → i ≡ item v (p + n) → Short i p (16 * v + n)
+short-some {p = p} v n h e =
+    let value : (16 * v + n) / 16 ≡ v = omega arith in
+    let bytes : (16 * v + n) % 16 ≡ n = omega arith in
+    record { says = λ z. e ∙ sym (λ i. item (value i) (p + bytes i)) }
+
+pub short-by : (s : List ℕ) (p e : ℕ) → p < e → e ≤ length s → {v q : ℕ} → varint (take e s) p ≡ taken v q → q - p < 16 → Short (stepAt s p e) p (16 * v + (q - p))
+short-by s p e h k {v} {q} read few =
+    let place : q ≡ p + (q - p) = omega (arith, reached (varint-reach (take e s) p) read) in
+    short-some v (q - p) few (step-by s p e (omega arith) k (λ eq. omega arith) read ∙ ap (λ (n : ℕ). item v n) place)
 
 -- ---- the stream
 

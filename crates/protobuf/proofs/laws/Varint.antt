@@ -124,6 +124,21 @@ two-bytes s p h a b =
     simp (le-leb p (length s) (omega arith))
     (goes-on _ (digits-more 9 s p (omega arith) a ∙ goes-on _ (digits-last 8 s (p + 1) h b)) ∙ λ i. taken (small i) (next i))
 
+-- and so are two with it and one without
+pub three-bytes : (s : List ℕ) (p : ℕ) → p + 2 < length s → 128 ≤ getD s p 0 → 128 ≤ getD s (p + 1) 0 → getD s (p + 2) 0 < 128
+    → varint s p ≡ taken (getD s p 0 % 128 + 128 * (getD s (p + 1) 0 % 128 + 128 * getD s (p + 2) 0)) (p + 3)
+unfolding varint
+three-bytes s p h a b c =
+    let low : getD s p 0 % 128 < 128 = mod-lt (getD s p 0) (lit< tt) in
+    let middle : getD s (p + 1) 0 % 128 < 128 = mod-lt (getD s (p + 1) 0) (lit< tt) in
+    let there : p + 1 + 1 ≡ p + 2 = omega arith in
+    let next : p + 2 + 1 ≡ p + 3 = omega arith in
+    let v = getD s p 0 % 128 + 128 * (getD s (p + 1) 0 % 128 + 128 * getD s (p + 2) 0) in
+    let small : v % 2 ^ 64 ≡ v = mod-eq-of-lt (omega arith) in
+    let last = ap (digits 8 s) there ∙ digits-last 7 s (p + 2) h c in
+    simp (le-leb p (length s) (omega arith))
+    (goes-on _ (digits-more 9 s p (omega arith) a ∙ goes-on _ (digits-more 8 s (p + 1) (omega arith) b ∙ goes-on _ last)) ∙ λ i. taken (small i) (next i))
+
 pub digits-reach : (n : ℕ) (s : List ℕ) (p : ℕ) → Reach s (suc p) (digits n s p)
 unfolding digits
 digits-reach zero s p = nowhere
