@@ -1,12 +1,12 @@
 -- Laws of numbers as 8 bytes each: numbers put one behind the other are all of them, and each is read back.
-use Prim.Native.Nat.{ℕ, zero, suc, _+_, _*_, _^_, _≤_, _<_}
+use Prim.Native.Nat.{ℕ, zero, suc, _+_, _-_, _*_, _^_, _≤_, _<_}
 use mathlib.Core.Path.{_≡_, refl, sym, ap, _∙_}
 use mathlib.Core.List.{List, [], _∷_, _++_, append-assoc, append-nil}
 use native.Mathlib.Nat.{mod-eq-of-lt, zero-add}
 use native.Mathlib.Numerals.{add-one}
 use native.Mathlib.Omega.{arith}
 use borrow.Author.Tests.{le-leb, lt-leb}
-use lib.ListN.{length, take, drop, getD, length-append, take-append-drop}
+use lib.ListN.{length, take, drop, getD, length-append, length-drop, take-append-drop, drop-of-length-le}
 use lib.Seq.{take-at, drop-at, drop-drop, take-suc, take-all, length-take-le}
 use Rattle.numbers.specs.Little.{little, bytes, numberAt, written, writtenAt}
 use Rattle.numbers.proofs.laws.Little.{bytes-length, little-bytes, number-inside, writes-inside, written-none, written-length, written-twice}
@@ -64,8 +64,29 @@ module _ {s : List ℕ} {at : ℕ} {ws : List ℕ} where
             ∙ ap (written s at) both;
       }
 
-  pub put-all : {i : ℕ} {t : List ℕ} → Putting s at ws i t → length ws ≤ i → t ≡ filledAt s at ws
-  put-all {i} p h = rw (le-leb (at + 8 * length ws) (length s) (p .room)) (p .is ∙ ap (λ (l : List ℕ). written s at (words l)) (take-all i ws h))
+  pub put-done : {i : ℕ} {t : List ℕ} → Putting s at ws i t → length ws ≤ i → t ≡ written s at (words ws)
+  put-done {i} p h = p .is ∙ ap (λ (l : List ℕ). written s at (words l)) (take-all i ws h)
+
+-- from the start of a slice on
+pub put-next : {s ws : List ℕ} {i : ℕ} {t u : List ℕ} → Putting s 0 ws i t → i < length ws → u ≡ writtenAt 8 t (8 * i) (getD ws i 0) → Putting s 0 ws (i + 1) u
+put-next {ws = ws} {i = i} {t = t} p h e = put-one p h (e ∙ ap (λ (n : ℕ). writtenAt 8 t n (getD ws i 0)) (sym (zero-add (8 * i))))
+
+pub put-room : (s : List ℕ) (at : ℕ) (ws : List ℕ) → at + 8 * length ws ≤ length s → 8 * length ws ≤ length (take (at + 8 * length ws - at) (drop at s))
+put-room s at ws h = omega (arith, length-take-le (at + 8 * length ws - at) (drop at s) (simp length-drop (omega arith)))
+
+-- a part of the bytes, lent and taken back with the numbers in it
+pub put-back : (s : List ℕ) (at : ℕ) (ws ys : List ℕ) → at + 8 * length ws ≤ length s → ys ≡ written (take (at + 8 * length ws - at) (drop at s)) 0 (words ws)
+    → take at s ++ (ys ++ drop (at + 8 * length ws - at) (drop at s)) ≡ filledAt s at ws
+put-back s at ws ys h e =
+    let n = at + 8 * length ws - at in
+    let size : n ≡ length (words ws) = omega (arith, words-length ws) in
+    let lent = take n (drop at s) in
+    let all : length lent ≤ 0 + length (words ws) = omega (arith, size, length-take-le n (drop at s) (simp length-drop (omega arith))) in
+    let none : drop (0 + length (words ws)) lent ≡ [] = drop-of-length-le lent all in
+    let own : ys ≡ words ws = e ∙ ap (λ (l : List ℕ). words ws ++ l) none ∙ append-nil (words ws) in
+    (λ i. take at s ++ (own i ++ drop (size i) (drop at s)))
+    ∙ ap (λ (l : List ℕ). take at s ++ (words ws ++ l)) (drop-drop (length (words ws)) at s)
+    ∙ sym (rw (le-leb (at + 8 * length ws) (length s) h))
 
 pub put-outside : (s : List ℕ) (at : ℕ) (ws : List ℕ) → length s < at + 8 * length ws → s ≡ filledAt s at ws
 put-outside s at ws h = rw (lt-leb (at + 8 * length ws) (length s) h)
