@@ -1,6 +1,10 @@
 -- What each enum that the code answers with says, in the definitions' terms: document 01's values for each case, and the refusal, whose
 -- number `Refusal` gives.
-use Prim.Native.Nat.{ℕ}
+use Prim.Native.Nat.{ℕ, _+_, _/_, _%_, _^_, _<_}
+use mathlib.Core.Path.{_≡_}
+use mathlib.Core.List.{List}
+use lib.Dec.{eqb}
+use Rattle.numbers.specs.Choose.{choose}
 use Rattle.message.specs.declared.payload.Payload.{Payload}
 use Rattle.message.specs.declared.payload.Payload.the-variants as payload
 use Rattle.message.specs.declared.payload.Skip.{Skip}
@@ -30,3 +34,15 @@ fieldOf field.Complete = last M.complete
 fieldOf (field.Cut r) = last (M.cut r)
 fieldOf (field.Spoilt tag r) = last (M.spoilt (split tag) r)
 fieldOf (field.Read tag value start len next) = item (fieldBy tag value start len) next
+
+-- A field by a short way: a number that is 0 where the way does not serve, which is the program's choice. Else it is 128 times the word of its
+-- number or its length (protobuf/specs/Short), plus its tag, which has one byte.
+abbrev pub fieldIn : ℕ → ℕ → Item M.Field M.MessageEnd
+fieldIn word p =
+    choose (eqb (word % 8) 2)
+    (item (fieldBy (word % 128) (word / 2048) (p + 1 + word / 128 % 16) (word / 2048)) (p + 1 + word / 128 % 16 + word / 2048))
+    (item (fieldBy (word % 128) (word / 2048) (p + 1) (word / 128 % 16)) (p + 1 + word / 128 % 16))
+
+pub record ShortField (s : List ℕ) (p word : ℕ) : Type 0 where
+  pub says : (word ≡ 0 → ⊥) → M.fieldAt s p ≡ fieldIn word p
+  pub small : (word ≡ 0 → ⊥) → p + 1 + word / 128 % 16 + word / 2048 < 2 ^ 64

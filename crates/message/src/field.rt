@@ -2,11 +2,11 @@
 ghost use mathlib.Core.Path.{_≡_};
 ghost use Rattle.protobuf.specs.Tag.{split};
 ghost use Rattle.message.specs.Message.{withPayload, fieldAt};
-ghost use Rattle.message.specs.Answers.{payloadOf, fieldOf};
+ghost use Prim.Native.Nat.{_+_, _/_, _%_, _^_, _<_};
+ghost use Rattle.message.specs.Answers.{payloadOf, fieldOf, fieldIn, ShortField};
 use crate::payload::Payload;
-use crate::payload::read_len_delimited;
 use crate::payload::read_payload;
-use crate::payload::read_raw_varint;
+use protobuf::column::wide_value;
 use protobuf::refusal::Refusal;
 use protobuf::tag::LEN;
 use protobuf::tag::Tag;
@@ -70,24 +70,77 @@ fn any_field(s: &[u8], at: usize) -> Field
     }
 }
 
-// The field at `at`, or the end of the message: 14 where `at` is behind the end, then the tag's refusals, then its payload's. Nearly every
-// field of a map has a tag of one byte and a number or a length behind it, and that way is a third of the other.
-pub fn next_field(s: &[u8], at: usize) -> Field
-    ensures { λ r. ⌜ fieldOf r ≡ fieldAt (now (s .entry)) at ⌝ }
+// A field with a tag of one byte and a number or a length behind it, in one word, which comes back in a register: nearly every field of a map is
+// one. Else 0.
+fn short_field(s: &[u8], at: usize) -> u64
+    ensures { λ r. ⌜ ShortField (now (s .entry)) at r ⌝ }
 {
     if s.len() <= at {
-        return any_field(s, at);
+        return 0;
     }
     let tag = s[at];
     if tag < 8 {
-        return any_field(s, at);
+        return 0;
     }
     if 128 <= tag {
-        return any_field(s, at);
+        return 0;
+    }
+    let word = wide_value(s, at + 1, s.len());
+    if word == 0 {
+        return 0;
+    }
+    // What does not fit into the field's word, or next to 2^64, goes the other way.
+    if 0x1_0000_0000_0000 <= word {
+        return 0;
+    }
+    if 0x7FFF_FFFF_FFFF_FFFF < s.len() {
+        return 0;
     }
     match (tag % 8) as u32 {
-        VARINT => field_by(tag as u32, read_raw_varint(s, at + 1)),
-        LEN => field_by(tag as u32, read_len_delimited(s, at + 1)),
-        _ => any_field(s, at),
+        VARINT => 128 * word + (tag as u64),
+        LEN => {
+            if ((s.len() - at) as u64) < 1 + word % 16 + word / 16 {
+                return 0;
+            }
+            128 * word + (tag as u64)
+        }
+        _ => 0,
     }
+}
+
+// The field that such a word tells of.
+fn field_in(word: u64, at: usize) -> Field
+    requires { ⌜ at + 1 + word / 128 % 16 + word / 2048 < 2 ^ 64 ⌝ }
+    ensures { λ r. ⌜ fieldOf r ≡ fieldIn word at ⌝ }
+{
+    let tag = (word % 128) as u32;
+    let value = word / 2048;
+    let behind = at + 1 + (word / 128 % 16) as usize;
+    if word % 8 == 2 {
+        return Field::Read {
+            tag,
+            value,
+            start: behind,
+            len: value as usize,
+            next: behind + value as usize,
+        };
+    }
+    Field::Read {
+        tag,
+        value,
+        start: at + 1,
+        len: (word / 128 % 16) as usize,
+        next: behind,
+    }
+}
+
+// The field at `at`, or the end of the message: 14 where `at` is behind the end, then the tag's refusals, then its payload's.
+pub fn next_field(s: &[u8], at: usize) -> Field
+    ensures { λ r. ⌜ fieldOf r ≡ fieldAt (now (s .entry)) at ⌝ }
+{
+    let word = short_field(s, at);
+    if word == 0 {
+        return any_field(s, at);
+    }
+    field_in(word, at)
 }

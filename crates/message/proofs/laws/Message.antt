@@ -1,11 +1,13 @@
 -- The laws of a message that views use: the fields from p are the field at p and the fields from the next place; a next place is behind
 -- its field's and within the bytes; a part lies within its message.
-use Prim.Native.Nat.{ℕ, suc, _+_, _*_, _%_, _≤_, _<_}
+use Prim.Native.Nat.{ℕ, suc, _+_, _-_, _*_, _/_, _%_, _^_, _≤_, _<_}
 use mathlib.Core.Path.{_≡_, refl, sym, ap, _∙_, subst}
 use mathlib.Core.List.{List}
+use mathlib.Core.Bool.{true, false}
 use native.Mathlib.Omega.{arith}
 use lib.ListN.{length, getD}
-use borrow.Author.Tests.{le-leb}
+use lib.Dec.{eqb}
+use borrow.Author.Tests.{le-leb, eq-eqb, ne-eqb}
 use Rattle.protobuf.specs.declared.refusal.Refusal.{Refusal}
 use Rattle.protobuf.specs.Read.{Read, taken, refused}
 use Rattle.protobuf.specs.Tag.{Tag, tagBy, split, TagAt, done, tagged, untagged, tagAt}
@@ -13,9 +15,11 @@ use Rattle.protobuf.specs.Varint.{varint}
 use Rattle.message.specs.Payload.{Payload, rawVarint, lengthDelimited, valueBy, payload}
 use Rattle.protobuf.specs.Stream.{Item, last, item, follow}
 use Rattle.message.specs.Message.{Field, MessageEnd, complete, cut, spoilt, withPayload, withTag, fieldAt, messageFrom}
+use Rattle.message.specs.Answers.{fieldBy, fieldIn, ShortField}
 use Rattle.protobuf.proofs.laws.Read.{reached}
-use Rattle.protobuf.proofs.laws.Varint.{one-byte}
+use Rattle.protobuf.proofs.laws.Varint.{one-byte, varint-reach}
 use Rattle.protobuf.proofs.laws.Tag.{tag-read, tag-reach, tagged-tag, small-parts, split-joined}
+use Rattle.message.proofs.laws.Payload.{raw-taken, delimited-taken}
 use Rattle.message.proofs.laws.Group.{payload-reach}
 use Rattle.message.proofs.laws.Within.{part-within}
 use Rattle.protobuf.proofs.laws.Stream.{Forward, unroll, Every, every}
@@ -51,13 +55,63 @@ module _ (s : List ℕ) (p : ℕ) where
     short-by : {r : Read Payload} → payload s (split t) (p + 1) ≡ r → fieldAt s p ≡ withPayload (split t) r
     short-by g = tagged-at short-tag ∙ ap (withPayload (split t)) g
 
-    pub short-varint : t % 8 ≡ 0 → fieldAt s p ≡ withPayload (split t) (rawVarint s (p + 1))
+    short-varint : t % 8 ≡ 0 → fieldAt s p ≡ withPayload (split t) (rawVarint s (p + 1))
     unfolding payload valueBy
     short-varint w = short-by {r = rawVarint s (p + 1)} (rw (le-leb (p + 1) (length s) (omega arith), w))
 
-    pub short-length : t % 8 ≡ 2 → fieldAt s p ≡ withPayload (split t) (lengthDelimited s (p + 1))
+    short-length : t % 8 ≡ 2 → fieldAt s p ≡ withPayload (split t) (lengthDelimited s (p + 1))
     unfolding payload valueBy
     short-length w = short-by {r = lengthDelimited s (p + 1)} (rw (le-leb (p + 1) (length s) (omega arith), w))
+
+    -- a number or a length behind it, by the word of its varint; the field's word holds both
+    module _ {word : ℕ} (few : length s < 2 ^ 63) (below : word < 2 ^ 48) (read : varint s (p + 1) ≡ taken (word / 16) (p + 1 + word % 16)) where
+      own-tag : (128 * word + t) % 128 ≡ t
+      own-tag = omega arith
+
+      own-value : (128 * word + t) / 2048 ≡ word / 16
+      own-value = omega arith
+
+      own-bytes : (128 * word + t) / 128 % 16 ≡ word % 16
+      own-bytes = omega arith
+
+      own-type : (128 * word + t) % 8 ≡ t % 8
+      own-type = omega arith
+
+      fits : p + 1 + (128 * word + t) / 128 % 16 + (128 * word + t) / 2048 < 2 ^ 64
+      fits = omega (arith, own-value, own-bytes, reached (varint-reach s (p + 1)) read)
+
+      pub number-word : t % 8 ≡ 0 → ShortField s p (128 * word + t)
+      number-word w =
+          let n = word % 16 in
+          let v = word / 16 in
+          let size : p + 1 + n - (p + 1) ≡ n = omega arith in
+          let other : eqb ((128 * word + t) % 8) 2 ≡ false = ne-eqb ((128 * word + t) % 8) 2 (λ e. omega (arith, own-type)) in
+          let told : item (fieldBy ((128 * word + t) % 128) ((128 * word + t) / 2048) (p + 1) ((128 * word + t) / 128 % 16)) (p + 1 + (128 * word + t) / 128 % 16) ≡ item (fieldBy t v (p + 1) n) (p + 1 + n) =
+          λ i. item (fieldBy (own-tag i) (own-value i) (p + 1) (own-bytes i)) (p + 1 + own-bytes i) in
+          record {
+            says =
+                λ h.
+                short-varint w
+                ∙ ap (withPayload (split t)) (raw-taken s (p + 1) read)
+                ∙ ap (λ (m : ℕ). item (fieldBy t v (p + 1) m) (p + 1 + n)) size
+                ∙ sym (rw other told);
+            small = λ h. fits;
+          }
+
+      pub length-word : t % 8 ≡ 2 → p + 1 + word % 16 + word / 16 ≤ length s → ShortField s p (128 * word + t)
+      length-word w room =
+          let own : eqb ((128 * word + t) % 8) 2 ≡ true = eq-eqb _ _ (own-type ∙ w) in
+          let n = word % 16 in
+          let v = word / 16 in
+          let told : item (fieldBy ((128 * word + t) % 128) ((128 * word + t) / 2048) (p + 1 + (128 * word + t) / 128 % 16) ((128 * word + t) / 2048)) (p + 1 + (128 * word + t) / 128 % 16 + (128 * word + t) / 2048) ≡ item (fieldBy t v (p + 1 + n) v) (p + 1 + n + v) =
+          λ i. item (fieldBy (own-tag i) (own-value i) (p + 1 + own-bytes i) (own-value i)) (p + 1 + own-bytes i + own-value i) in
+          record {
+            says = λ h. short-length w ∙ ap (withPayload (split t)) (delimited-taken s (p + 1) read room) ∙ sym (rw own told);
+            small = λ h. fits;
+          }
+
+  pub no-word : ShortField s p 0
+  no-word = record { says = λ h. absurd (h refl); small = λ h. absurd (h refl) }
 
 -- ---- the next place
 

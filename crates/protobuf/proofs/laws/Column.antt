@@ -1,13 +1,13 @@
 -- The laws of a column that readers use: the values from p are the value at p and the values from the next place; what one step of a
 -- reader finds.
 use Prim.Native.Nat.{ℕ, _+_, _-_, _*_, _/_, _%_, _≤_, _<_}
-use mathlib.Core.Path.{_≡_, refl, sym, ap, _∙_}
+use mathlib.Core.Path.{_≡_, refl, sym, ap, _∙_, subst}
 use mathlib.Core.List.{List}
 use mathlib.Core.Bool.{Bool, true, false}
 use native.Mathlib.Omega.{arith}
 use lib.ListN.{length, getD, take}
-use lib.Seq.{getD-take, length-take-le}
-use lib.Dec.{eqb}
+use lib.Seq.{getD-take, take-all, length-take-le}
+use lib.Dec.{eqb, leb}
 use borrow.Author.Tests.{le-leb, lt-leb, eq-eqb, ne-eqb}
 use Rattle.protobuf.specs.declared.refusal.Refusal.the-variants.{Outside}
 use Rattle.protobuf.specs.Read.{Read, taken, refused}
@@ -92,16 +92,31 @@ short-by s p e h k {v} {q} read few =
     let place : q ≡ p + (q - p) = omega (arith, reached (varint-reach (take e s) p) read) in
     short-some v (q - p) few (step-by s p e (omega arith) k (λ eq. omega arith) read ∙ ap (λ (n : ℕ). item v n) place)
 
+from-varint : (s : List ℕ) (p : ℕ) (r : Read ℕ) {v q : ℕ} → varint s p ≡ r → orCut r ≡ item v q → varint s p ≡ taken v q
+from-varint s p (taken v q) e g = e ∙ cc
+from-varint s p (refused n) e g = absurd (let z : _≡_ {A = ℕ} 0 1 = cc in omega arith)
+
+-- a value of a column that ends with its bytes is their varint
+step-varint : (s : List ℕ) (p e : ℕ) {v q : ℕ} → stepAt s p e ≡ item v q → varint (take e s) p ≡ taken v q
+unfolding stepAt valueAt
+step-varint s p e {v} {q} g = by (leb p e) (leb e (length s)) (eqb p (length (take e s))) g
+  where
+    by : (b c d : Bool) → choose b (choose c (choose d (last ended) (orCut (varint (take e s) p))) (last (cut Outside))) (last (cut Outside)) ≡ item v q → varint (take e s) p ≡ taken v q
+    by true true false h = from-varint (take e s) p (varint (take e s) p) refl h
+    by true true true h = absurd (let z : _≡_ {A = ℕ} 0 1 = cc in omega arith)
+    by true false d h = absurd (let z : _≡_ {A = ℕ} 0 1 = cc in omega arith)
+    by false c d h = absurd (let z : _≡_ {A = ℕ} 0 1 = cc in omega arith)
+
+pub short-varint : (s : List ℕ) (p : ℕ) {word : ℕ} → Short (stepAt s p (length s)) p word → (word ≡ 0 → ⊥) → varint s p ≡ taken (word / 16) (p + word % 16)
+short-varint s p {word} short h =
+    subst (λ (l : List ℕ). varint l p ≡ taken (word / 16) (p + word % 16)) (take-all (length s) s (omega arith)) (step-varint s p (length s) (short .says h))
+
 -- ---- the stream
 
 module _ (s : List ℕ) where
-  from-varint : (p : ℕ) (r : Read ℕ) {v q : ℕ} → varint s p ≡ r → orCut r ≡ item v q → varint s p ≡ taken v q
-  from-varint p (taken v q) e g = e ∙ cc
-  from-varint p (refused n) e g = absurd (let z : _≡_ {A = ℕ} 0 1 = cc in omega arith)
-
   forward : (p : ℕ) (b : Bool) {v q : ℕ} → choose b (last ended) (orCut (varint s p)) ≡ item v q → (p < q) × (q ≤ length s)
   forward p true g = absurd (let z : _≡_ {A = ℕ} 0 1 = cc in omega arith)
-  forward p false g = reached (varint-reach s p) (from-varint p (varint s p) refl g)
+  forward p false g = reached (varint-reach s p) (from-varint s p (varint s p) refl g)
 
   pub values-forward : Forward (valueAt s) (length s)
   unfolding valueAt

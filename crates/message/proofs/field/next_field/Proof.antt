@@ -1,10 +1,6 @@
--- `next_field` is `fieldAt`: by the tag's one byte where it is one of a number or of a length, and else by `any_field`.
+-- `next_field` is `fieldAt`, by its word where there is one, and else by `any_field`.
 use borrow.Author.Needs.{needs}
-use native.Mathlib.Omega.{arith}
-use mathlib.Core.Path.{refl, sym, ap, _∙_}
-use Rattle.protobuf.specs.Tag.{split}
-use Rattle.message.specs.Message.{withPayload}
-use Rattle.message.proofs.laws.Message.{short-varint, short-length}
+use mathlib.Core.Path.{sym, _∙_}
 use Rattle.message.proofs.field.next_field.Statement.{statement}
 use Rattle.message.proofs.field.next_field.Tie as tie
 
@@ -13,22 +9,7 @@ next-field-spec =
     tie.close
     (tie.spec
     (λ c κs. search needs)
-    (λ c. search needs)
-    (λ c. search needs)
     (λ c κs. search needs)
     (λ c. search needs)
-    (λ c κs. search needs)
-    (λ c. search needs)
-    (λ c. search needs)
-    (λ c. search needs)
-    (λ c. search needs)
-    (λ c κs. search needs)
-    (λ c κs. search needs)
-    (λ c. search needs)
-    (λ c. search needs)
-    (λ c κs. search needs)
-    (λ c κs. search needs)
-    (λ c κs. search needs)
-    (λ c. c .field-by .ensures ∙ ap (withPayload (split _)) (c .before .read-raw-varint .ensures) ∙ sym (short-varint _ _ (omega arith) refl (omega arith) (omega arith) (omega arith)))
-    (λ c. c .field-by2 .ensures ∙ ap (withPayload (split _)) (c .before .read-len-delimited .ensures) ∙ sym (short-length _ _ (omega arith) refl (omega arith) (omega arith) (omega arith)))
-    (λ c. search needs))
+    (λ c κs. c .before .short-field .ensures .small (c .if1 .left))
+    (λ c. c .field-in .ensures ∙ sym (c .before .before .short-field .ensures .says (c .before .if1 .left))))
