@@ -1,11 +1,12 @@
 -- Several columns in step: a value of each, read in the order that document 01 gives them. The end comes where all have ended; where only
 -- some have, that is 12, and a refusal of any of them comes before it. Running sums are the values of a column of differences.
-use Prim.Native.Nat.{ℕ}
+use Prim.Native.Nat.{ℕ, _+_, _/_, _%_}
 use mathlib.Core.List.{List}
 use lib.IntN.{ℤ}
 use Rattle.protobuf.specs.declared.refusal.Refusal.the-variants.{Counts}
 use Rattle.protobuf.specs.Stream.{end, more}
 use Rattle.protobuf.specs.Column.{ended, cut, Column, int32s, uint32s, sint32s, sint64s, bools, sumsFrom}
+use Rattle.numbers.specs.Signed.{zigzag, wrappingAdd}
 use Rattle.block.specs.Infos.{Infos, NextInfo, present, missing, stopped}
 use Rattle.columns.specs.declared.sums.Sum64.{Sum64}
 use Rattle.columns.specs.declared.sums.Sum64Step.{Sum64Step}
@@ -44,6 +45,11 @@ sum64Ahead s c = sumsFrom 64 (c .sum) (sint64s (ahead s (c .column)))
 
 abbrev pub sum64Said : List ℕ → Sum64Step → Column ℤ
 sum64Said s r = saidBy (r .told) (r .next .sum) (sum64Ahead s (r .next))
+
+-- the state behind a value that a word tells (protobuf/specs/Short)
+abbrev pub movedSum : Sum64 → ℕ → Sum64
+movedSum c word =
+    record { column = record { at = c .column .at + word % 16; end = c .column .end }; sum = wrappingAdd 64 (c .sum) (zigzag 64 (word / 16)) }
 
 abbrev pub sum32Ahead : List ℕ → Sum32 → Column ℤ
 sum32Ahead s c = sumsFrom 32 (c .sum) (sint32s (ahead s (c .column)))

@@ -3,7 +3,7 @@
 use Prim.Native.Nat.{ℕ}
 use mathlib.Core.Path.{_≡_}
 use mathlib.Core.List.{List}
-use mathlib.Core.Bool.{Bool, true}
+use mathlib.Core.Bool.{Bool, true, false}
 use mathlib.Core.Option.{none, some}
 use lib.Dec.{leb, ltb, eqb}
 use lib.ListN.{length, getD}
@@ -25,7 +25,8 @@ use Rattle.kinds.specs.declared.dense_nodes.InfoRow.{InfoRow}
 use Rattle.kinds.specs.declared.dense_nodes.InfoRow.the-variants as info
 use Rattle.kinds.specs.declared.dense_nodes.FullDenseStep.{FullDenseStep}
 use Rattle.kinds.specs.declared.dense_nodes.FullDenseStep.the-variants as full
-use Rattle.kinds.specs.Dense.{rowsEnd, fullDenseAhead, nodeBetween}
+use Rattle.kinds.specs.declared.dense_nodes.NextNode.{NextNode}
+use Rattle.kinds.specs.Dense.{rowsEnd, denseAhead, fullDenseAhead, nodeBetween, denseSaid}
 use Rattle.kinds.specs.declared.state.Messages.{Messages}
 use Rattle.kinds.specs.declared.messages.Viewed.{Viewed}
 use Rattle.kinds.specs.declared.messages.Viewed.the-variants as viewed
@@ -68,6 +69,16 @@ abbrev pub denseStepInside : List ℕ → DenseStep → Bool
 denseStepInside s (dense.Node next) = columnsInside s next
 denseStepInside s dense.Ended = true
 denseStepInside s (dense.Refused r) = true
+
+-- a node by the columns behind it; or that the next is none, which is the end or a refusal
+abbrev pub isEnd : {A : Type 0} → Column A → Bool
+isEnd (end e) = true
+isEnd (more x rest) = false
+
+pub record NodeSaid (s : List ℕ) (d : DenseColumns) (r : NextNode) : Type 0 where
+  pub node : (r .found ≡ 0 → ⊥) → denseSaid s d (dense.Node (r .columns)) ≡ denseAhead s d
+  pub inside : (r .found ≡ 0 → ⊥) → columnsInside s (r .columns) ≡ true
+  pub none : r .found ≡ 0 → isEnd (denseAhead s d) ≡ true
 
 -- an info row that is read, present or missing, with the columns behind it
 pub data ReadRow : Type 0 where

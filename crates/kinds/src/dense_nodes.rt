@@ -9,18 +9,25 @@ ghost use Rattle.columns.specs.Inside.{infosInside, behindInside};
 ghost use Rattle.columns.specs.KeysVals.{behindOf};
 ghost use Rattle.columns.specs.Zip.{infosAhead};
 ghost use Rattle.kinds.specs.Dense.{denseAhead, denseSaid, fullDenseAhead};
-ghost use Rattle.kinds.specs.Said.{zeroNext, rowRead, readRow, rowInside, denseStepInside, RefusedRow, fullDenseSaid, fullStepInside};
+ghost use Prim.Native.Nat.{_+_, _%_, _^_, _<_};
+ghost use Rattle.columns.specs.Zip.{movedSum};
+ghost use Rattle.kinds.specs.Said.{zeroNext, NodeSaid, rowRead, readRow, rowInside, denseStepInside, RefusedRow, fullDenseSaid, fullStepInside};
 use crate::state::DenseColumns;
 use columns::info_rows::InfoColumns;
 use columns::info_rows::InfoStep;
 use columns::info_rows::next_info;
 use columns::keys_vals::Behind;
 use columns::keys_vals::pass_pairs;
+use columns::sums::Sum64;
 use columns::told::Told;
+use columns::zip::RowColumns;
 use columns::zip::next_row;
 use elements::element::DenseNodeInfo;
 use elements::element::NodeInfo;
+use numbers::signed::wrapping_add_i64;
+use numbers::signed::zigzag_i64;
 use protobuf::column::Column;
+use protobuf::column::short_value;
 use protobuf::refusal::Refusal;
 use protobuf::refusal::number;
 
@@ -29,6 +36,12 @@ pub enum DenseStep {
     Node(DenseColumns),
     Ended,
     Refused(Refusal),
+}
+
+// Whether there is a next node, which is so where `found` is not 0, and the columns behind it. A number, so that what a loop carries has no gaps.
+pub struct NextNode {
+    pub found: u64,
+    pub columns: DenseColumns,
 }
 
 // The same with metadata, and the columns of DenseInfo behind it.
@@ -101,6 +114,75 @@ pub fn next_dense(buffer: &[u8], columns: DenseColumns) -> DenseStep
                 }),
             }
         }
+    }
+}
+
+// The next dense node by `next_dense`, which also tells the end and refusals.
+fn any_node(buffer: &[u8], columns: DenseColumns) -> NextNode
+    ensures { λ r. ⌜ NodeSaid (now (buffer .entry)) columns r ⌝ }
+{
+    let d = next_dense(buffer, columns);
+    match d {
+        DenseStep::Node(next) => NextNode {
+            found: 1,
+            columns: next,
+        },
+        DenseStep::Ended => NextNode { found: 0, columns },
+        DenseStep::Refused(_) => NextNode { found: 0, columns },
+    }
+}
+
+// The running sum behind a value that a word tells (`short_value`).
+fn move_sum(state: Sum64, word: u64) -> Sum64
+    requires { ⌜ state .column .at + word % 16 < 2 ^ 64 ⌝ }
+    ensures { λ r. ⌜ r ≡ movedSum state word ⌝ }
+{
+    let column = state.column;
+    let sum = state.sum;
+    Sum64 {
+        column: Column {
+            at: column.at + (word % 16) as usize,
+            end: column.end,
+        },
+        sum: wrapping_add_i64(sum, zigzag_i64(word / 16)),
+    }
+}
+
+// The next dense node of a plain walk, where there is one: the columns behind it, and what was found is not 0. Most nodes have short values
+// and no pairs, and those are taken without the answers of readers in step, which pass through memory.
+pub fn next_node(buffer: &[u8], columns: DenseColumns) -> NextNode
+    ensures { λ r. ⌜ NodeSaid (now (buffer .entry)) columns r ⌝ }
+{
+    let rows = columns.rows;
+    let keyvals = columns.keyvals;
+    let id = short_value(buffer, rows.ids.column.at, rows.ids.column.end);
+    let lat = short_value(buffer, rows.lats.column.at, rows.lats.column.end);
+    let lon = short_value(buffer, rows.lons.column.at, rows.lons.column.end);
+    if id == 0 {
+        return any_node(buffer, columns);
+    }
+    if lat == 0 {
+        return any_node(buffer, columns);
+    }
+    if lon == 0 {
+        return any_node(buffer, columns);
+    }
+    if !has_no_pairs(buffer, keyvals) {
+        return any_node(buffer, columns);
+    }
+    NextNode {
+        found: 1,
+        columns: DenseColumns {
+            rows: RowColumns {
+                ids: move_sum(rows.ids, id),
+                lats: move_sum(rows.lats, lat),
+                lons: move_sum(rows.lons, lon),
+            },
+            keyvals: Column {
+                at: keyvals.at + 1,
+                end: keyvals.end,
+            },
+        },
     }
 }
 
