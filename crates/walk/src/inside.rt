@@ -11,7 +11,7 @@ use kinds::state::GroupRangeAt;
 use wire::record::WireBlock;
 
 // Whether the number is below the count, and the range in the buffer.
-fn group_inside(buffer: &[u8], block: WireBlock, of: GroupRangeAt) -> bool
+pub fn group_inside(buffer: &[u8], block: WireBlock, of: GroupRangeAt) -> bool
     ensures { λ r. ⌜ r ≡ groupInside (now (buffer .entry)) block of ⌝ }
 {
     if block.groups <= of.group {
@@ -21,7 +21,7 @@ fn group_inside(buffer: &[u8], block: WireBlock, of: GroupRangeAt) -> bool
 }
 
 // Whether the group, the message and all four columns are inside.
-fn dense_inside(buffer: &[u8], block: WireBlock, nodes: DenseNodeIter) -> bool
+pub fn dense_inside(buffer: &[u8], block: WireBlock, nodes: DenseNodeIter) -> bool
     ensures { λ r. ⌜ r ≡ denseInside (now (buffer .entry)) block nodes ⌝ }
 {
     if !group_inside(buffer, block, nodes.of) {

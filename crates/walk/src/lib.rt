@@ -2,7 +2,7 @@
 // It reads a lent buffer by a record and a state, and hands out elements with the state behind each, the end, or a refusal of document 01's
 // table.
 pub mod block_elements;
-mod inside;
+pub mod inside;
 mod moves;
 pub mod state;
 mod steps;

@@ -1,3 +1,4 @@
 -- One file of laws for each subject.
 pub mod Steps
+pub mod Fills
 pub mod Chain

@@ -4,24 +4,37 @@ ghost use Prim.Native.Nat.{_+_, _*_, _≤_};
 ghost use lib.ListN.{length};
 ghost use lib.Dec.{leb};
 ghost use Rattle.numbers.specs.Choose.{choose};
-ghost use Rattle.answers.specs.Words.{filled};
+ghost use Rattle.answers.specs.Words.{filled, filledAt};
+ghost use mathlib.Core.Bool.{true};
+ghost use Rattle.lookup.specs.Lookup.{isRecordInside};
+ghost use Rattle.walk.specs.State.{denseInside};
 ghost use Rattle.walk.specs.Walk.{elementsFrom, fresh};
 ghost use Rattle.calls.specs.Calls.{answered, oneRoom, roomFor, callCode, itemsOf, countAfter, SlotLeft};
 ghost use Rattle.calls.specs.Filling.{StopsAt, ItemPutBy, FilledBy, CalledBy};
 ghost use Rattle.walk_slots.specs.Slot.{walkWords, walkAt};
+ghost use Rattle.walk_calls.specs.Fills.{nodePut, atColumns, Fills, FillsUp};
 ghost use Rattle.walk_calls.specs.Steps.{foundBy, putWords, ElementsIn, walkIn, walkCall};
 use answers::codes::ENDED;
 use answers::codes::OUTSIDE;
 use answers::record::RecordIn;
 use answers::record::record_in;
+use answers::words::put_at;
 use calls::room::Counted;
 use calls::room::one_room;
 use calls::room::put_count;
 use calls::room::room_for;
+use columns::zip::RowColumns;
+use kinds::dense_nodes::next_node;
+use kinds::state::DenseColumns;
 use layouts::element::put_element;
+use lookup::by_number::is_inside;
+use numbers::signed::bits_i64;
+use protobuf::column::Column;
 use protobuf::refusal::number;
 use walk::block_elements::Said;
+use walk::inside::dense_inside;
 use walk::state::BlockElementsIter;
+use walk::state::DenseNodeIter;
 use walk_slots::slot::put_walk;
 use walk_slots::slot::walk_in;
 use wire::record::WireBlock;
@@ -37,6 +50,12 @@ struct StepsFilled {
     code: u32,
     count: usize,
     next: BlockElementsIter,
+}
+
+// How many dense nodes were put, with the columns behind them.
+struct NodesFilled {
+    count: usize,
+    columns: DenseColumns,
 }
 
 // One element more, at a place of `out`.
@@ -91,19 +110,63 @@ fn steps_behind(code: u32, count: usize, state: BlockElementsIter) -> StepsFille
     }
 }
 
-// As many elements as there is room for.
+// A plain dense node, by the columns behind it, whose sums it is, and its pairs' reader: ten numbers at a place of `out`.
+fn put_node(out: &mut [u8], at: usize, nodes: DenseNodeIter, tags: Column, rows: RowColumns)
+    ensures { λ r. ⌜ now (out .exit) ≡ filledAt (now (out .entry)) at (putWords (nodePut nodes tags rows)) ⌝ }
+{
+    put_at(
+        out,
+        at,
+        &[
+            0,
+            nodes.of.group as u64,
+            nodes.message.start as u64,
+            nodes.message.len as u64,
+            bits_i64(rows.ids.sum),
+            bits_i64(rows.lats.sum),
+            bits_i64(rows.lons.sum),
+            tags.at as u64,
+            tags.end as u64,
+            0,
+        ],
+    );
+}
+
+// The plain dense nodes that follow one another: they are what a camera draws most of, so their columns alone go round. It stops where there
+// is no next one; what comes there, the end or a number, is told by a step.
+fn fill_nodes(buffer: &[u8], nodes: DenseNodeIter, out: &mut [u8], most: usize) -> NodesFilled
+    requires { ⌜ 208 * most ≤ length (now out) ⌝ }
+    ensures { λ r. ⌜ ((block : WireBlock) → isRecordInside (now (buffer .entry)) block ≡ true → denseInside (now (buffer .entry)) block nodes ≡ true → Fills (now (buffer .entry)) block most (BlockElementsIter.DenseNodes nodes) (now (out .entry)) (r .count) (BlockElementsIter.DenseNodes (atColumns nodes (r .columns))) (now (out .exit))) ⌝ }
+    ensures { λ r. ⌜ r .count ≤ most ⌝ }
+{
+    let mut columns = nodes.columns;
+    let mut count = 0;
+    while count < most {
+        let n = next_node(buffer, columns);
+        if n.found == 0 {
+            return NodesFilled { count, columns };
+        }
+        put_node(out, 208 * count, nodes, columns.keyvals, n.columns.rows);
+        columns = n.columns;
+        count += 1;
+    }
+    NodesFilled { count, columns }
+}
+
+// As many elements as there is room for, behind the first `from` ones.
 fn fill_steps(
     buffer: &[u8],
     block: WireBlock,
     start: BlockElementsIter,
     out: &mut [u8],
+    from: usize,
     most: usize,
 ) -> StepsFilled
-    requires { ⌜ 208 * most ≤ length (now out) ⌝ }
-    ensures { λ r. ⌜ FilledBy (foundBy (now (buffer .entry))) putWords (elementsFrom (now (buffer .entry)) block) 208 BlockElementsIter.Ended (now (out .entry)) (answered most (elementsFrom (now (buffer .entry)) block start)) (r .code) (r .count) (r .next) (now (out .exit)) ⌝ }
+    requires { ⌜ (from ≤ most) × (208 * most ≤ length (now out)) ⌝ }
+    ensures { λ r. ⌜ FillsUp (now (buffer .entry)) block most from start (now (out .entry)) (r .code) (r .count) (r .next) (now (out .exit)) ⌝ }
 {
     let mut state = start;
-    let mut count = 0;
+    let mut count = from;
     while count < most {
         let r = put_step(buffer, block, state, out, 208 * count);
         if r.code != 0 {
@@ -113,6 +176,57 @@ fn fill_steps(
         count += 1;
     }
     steps_behind(OUTSIDE, count, state)
+}
+
+// The same from plain dense nodes on, which come first.
+fn fill_from_nodes(
+    buffer: &[u8],
+    block: WireBlock,
+    nodes: DenseNodeIter,
+    out: &mut [u8],
+    most: usize,
+) -> StepsFilled
+    requires { ⌜ 208 * most ≤ length (now out) ⌝ }
+    ensures { λ r. ⌜ FilledBy (foundBy (now (buffer .entry))) putWords (elementsFrom (now (buffer .entry)) block) 208 BlockElementsIter.Ended (now (out .entry)) (answered most (elementsFrom (now (buffer .entry)) block (BlockElementsIter.DenseNodes nodes))) (r .code) (r .count) (r .next) (now (out .exit)) ⌝ }
+{
+    let start = BlockElementsIter::DenseNodes(nodes);
+    if !is_inside(buffer, block) {
+        return fill_steps(buffer, block, start, out, 0, most);
+    }
+    if !dense_inside(buffer, block, nodes) {
+        return fill_steps(buffer, block, start, out, 0, most);
+    }
+    let f = fill_nodes(buffer, nodes, out, most);
+    let columns = f.columns;
+    let mut behind = nodes;
+    behind.columns = columns;
+    fill_steps(
+        buffer,
+        block,
+        BlockElementsIter::DenseNodes(behind),
+        out,
+        f.count,
+        most,
+    )
+}
+
+// The same from any state on.
+fn fill_from(
+    buffer: &[u8],
+    block: WireBlock,
+    start: BlockElementsIter,
+    out: &mut [u8],
+    most: usize,
+) -> StepsFilled
+    requires { ⌜ 208 * most ≤ length (now out) ⌝ }
+    ensures { λ r. ⌜ FilledBy (foundBy (now (buffer .entry))) putWords (elementsFrom (now (buffer .entry)) block) 208 BlockElementsIter.Ended (now (out .entry)) (answered most (elementsFrom (now (buffer .entry)) block start)) (r .code) (r .count) (r .next) (now (out .exit)) ⌝ }
+{
+    match start {
+        BlockElementsIter::DenseNodes(nodes) => {
+            return fill_from_nodes(buffer, block, nodes, out, most);
+        }
+        _ => return fill_steps(buffer, block, start, out, 0, most),
+    }
 }
 
 // The same over the record in a slice: 14 where it is none.
@@ -133,7 +247,7 @@ fn steps_over(
             count: 0,
             next: BlockElementsIter::Ended,
         },
-        RecordIn::Record(block) => fill_steps(buffer, block, start, out, most),
+        RecordIn::Record(block) => fill_from(buffer, block, start, out, most),
     }
 }
 

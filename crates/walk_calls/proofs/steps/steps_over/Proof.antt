@@ -19,4 +19,4 @@ steps-over-spec =
     (λ c κs. search needs)
     (λ c. over-none _ putWords (elementsFrom _) 208 iter.Ended _ _ (c .before .before .before .before .before .before .args .start) (says recordOf (c .before .before .record-in .ensures) (c .enum-told .given .1)))
     (λ c. search needs)
-    (λ c. over-record _ putWords (elementsFrom _) 208 iter.Ended _ _ (c .before .before .before .before .before .before .before .before .before .before .before .args .start) (says recordOf (c .before .before .before .before .before .before .before .record-in .ensures) (c .before .before .before .before .before .r .given .1)) (c .before .before .fill-steps .ensures)))
+    (λ c. over-record _ putWords (elementsFrom _) 208 iter.Ended _ _ (c .before .before .before .before .before .before .before .before .before .before .before .args .start) (says recordOf (c .before .before .before .before .before .before .before .record-in .ensures) (c .before .before .before .before .before .r .given .1)) (c .before .before .fill-from .ensures)))
