@@ -3,30 +3,45 @@
 //! answers where the simple reader agrees (`p`), and from the simple reader
 //! where the Rust has no answer (`r`); and it is checked against both again,
 //! and against the proved library where that is linked and has an answer.
+//! The walks stand in a file of their own beside the other questions, since a
+//! program of its own replays them, and a program is run on its own files.
 
 use std::fs;
+use std::path::{Path, PathBuf};
 
 use crate::by_c;
 use crate::by_published;
 use crate::by_reader;
 use crate::question::Ask;
-use crate::samples;
+use crate::samples::{self, Question};
 use crate::text::{Words, parse_bytes};
+
+/// The file of the walks, beside that of the other questions.
+fn walks_beside(path: &str) -> PathBuf {
+    Path::new(path).with_file_name("walks.txt")
+}
 
 /// Writes the list; an error where the two sides differ.
 pub fn write(path: &str) -> Result<(), String> {
+    let (walks, others): (Vec<_>, Vec<_>) = samples::questions()
+        .into_iter()
+        .partition(|(ask, _)| ask.is_walk());
+    write_file(Path::new(path), &others)?;
+    write_file(&walks_beside(path), &walks)
+}
+
+fn write_file(path: &Path, questions: &[Question]) -> Result<(), String> {
     let commit = by_published::COMMIT.ok_or("the published Rust is not at hand")?;
     let mut text = format!(
         "# Answers to small questions, as vectors/README.md describes. Made by `host/run write-list`\n\
          # from folknor/pbfhogg {commit} (p) and the simple reader in host/reader (r).\n"
     );
-    let questions = samples::questions();
-    for (ask, bytes) in &questions {
+    for (ask, bytes) in questions {
         text.push_str(&line(*ask, bytes)?);
         text.push('\n');
     }
-    fs::write(path, text).map_err(|e| format!("{path}: {e}"))?;
-    println!("{path}: {} lines written", questions.len());
+    fs::write(path, text).map_err(|e| format!("{}: {e}", path.display()))?;
+    println!("{}: {} lines written", path.display(), questions.len());
     Ok(())
 }
 
@@ -48,15 +63,9 @@ fn line(ask: Ask, bytes: &[u8]) -> Result<String, String> {
 
 /// Checks every line; how many hold, or the first one that differs.
 pub fn check(path: &str) -> Result<String, String> {
-    let text = fs::read_to_string(path).map_err(|e| format!("{path}: {e}"))?;
-    let (mut count, mut through_c) = (0, 0);
-    for (number, line) in text.lines().enumerate() {
-        if !line.starts_with('#') {
-            let asked = check_line(line).map_err(|how| format!("{path}:{}: {how}", number + 1))?;
-            count += 1;
-            through_c += u64::from(asked);
-        }
-    }
+    let others = check_file(Path::new(path))?;
+    let walks = check_file(&walks_beside(path))?;
+    let (count, through_c) = (others.0 + walks.0, others.1 + walks.1);
     let mut text = format!("{count} answers hold by the simple reader");
     if by_published::COMMIT.is_some() {
         text.push_str(", and by the published Rust where it has one");
@@ -65,6 +74,21 @@ pub fn check(path: &str) -> Result<String, String> {
         text.push_str(&format!(", and {through_c} of them through C"));
     }
     Ok(text)
+}
+
+/// How many lines a file has, and how many of them were asked through C too.
+fn check_file(path: &Path) -> Result<(u64, u64), String> {
+    let name = path.display();
+    let text = fs::read_to_string(path).map_err(|e| format!("{name}: {e}"))?;
+    let (mut count, mut through_c) = (0, 0);
+    for (number, line) in text.lines().enumerate() {
+        if !line.starts_with('#') {
+            let asked = check_line(line).map_err(|how| format!("{name}:{}: {how}", number + 1))?;
+            count += 1;
+            through_c += u64::from(asked);
+        }
+    }
+    Ok((count, through_c))
 }
 
 /// Whether the line was asked through C too.

@@ -106,6 +106,11 @@ impl Ask {
         }
     }
 
+    /// Whether a whole walk is asked for.
+    pub fn is_walk(&self) -> bool {
+        matches!(self, Ask::Plain | Ask::Full)
+    }
+
     /// The question's numbers, in the order of its fields.
     pub fn numbers(&self) -> Vec<u64> {
         match *self {
