@@ -1,6 +1,10 @@
-// A line of the list taken apart: which walk it asks for, the digits of its block, and the answer's text.
+// A line of the list, read from left to right: the kind of walk, by whom it was answered, the digits of the block, and the answer's text.
 //
 //     plain p x12071a054203020201 = w 0 0 . 1 2 1 . .
+use crate::words::NOWHERE;
+use crate::words::pass_sign;
+use crate::words::pass_text;
+ghost use Prim.Native.Nat.{_≤_};
 
 // The most bytes of a block with its tables.
 pub(crate) const BYTES: usize = 4096;
@@ -13,135 +17,85 @@ pub(crate) enum Kind {
     Other,
 }
 
-// The bytes from `from` up to `to`: none where that is no part of them.
-pub(crate) fn cut(s: &[u8], from: usize, to: usize) -> &[u8] {
-    if to < from {
-        return &s[0..0];
-    }
-    if s.len() < to {
-        return &s[0..0];
-    }
-    &s[from..to]
-}
-
-// The place behind a place.
-pub(crate) fn behind(at: usize) -> usize {
-    if at < 0xFFFF_FFFF_FFFF_FFFF {
-        at + 1
+fn pass_kind(line: &[u8], full: bool) -> usize {
+    if full {
+        pass_text(line, 0, b"full")
     } else {
-        at
+        pass_text(line, 0, b"plain")
     }
-}
-
-// The byte at a place, 0 behind the end.
-fn byte_at(s: &[u8], at: usize) -> u8 {
-    if at < s.len() { s[at] } else { 0 }
-}
-
-// The place of the first such byte from a place on, or the end.
-pub(crate) fn find(s: &[u8], from: usize, byte: u8) -> usize {
-    let n = s.len();
-    if n < from {
-        return n;
-    }
-    bytes::scan::find(s, from, n, byte)
 }
 
 pub(crate) fn kind_of(line: &[u8]) -> Kind {
-    let name = cut(line, 0, find(line, 0, b' '));
-    if check::same(name, b"#") {
+    if pass_text(line, 0, b"#") != NOWHERE {
         return Kind::Comment;
     }
-    if check::same(name, b"plain") {
+    if pass_kind(line, false) != NOWHERE {
         return Kind::Plain;
     }
-    if check::same(name, b"full") {
+    if pass_kind(line, true) != NOWHERE {
         return Kind::Full;
     }
     Kind::Other
 }
 
-// Where the word of the block's bytes begins: it is the third.
-fn bytes_from(line: &[u8]) -> usize {
-    let first = find(line, 0, b' ');
-    behind(find(line, behind(first), b' '))
-}
-
-// The digits of the block's bytes.
-pub(crate) fn digits_of(line: &[u8]) -> &[u8] {
-    let from = bytes_from(line);
-    cut(line, behind(from), find(line, from, b' '))
-}
-
-// The place of the equals sign, which is the fourth word.
-fn equals(line: &[u8]) -> usize {
-    behind(find(line, bytes_from(line), b' '))
-}
-
-// The answer's text, with the space before its first word.
-pub(crate) fn answer_of(line: &[u8]) -> &[u8] {
-    cut(line, behind(equals(line)), line.len())
-}
-
-// Whether a line has the word of its bytes and then an equals sign.
-pub(crate) fn is_question(line: &[u8]) -> bool {
-    if byte_at(line, bytes_from(line)) != b'x' {
-        return false;
+// The bytes from a place on, none where that is no place in them.
+pub(crate) fn rest(s: &[u8], from: usize) -> &[u8] {
+    if s.len() < from {
+        return &s[0..0];
     }
-    byte_at(line, equals(line)) == b'='
+    &s[from..]
+}
+
+// The letter of who answered: the published Rust, or the simple reader alone.
+fn pass_by(line: &[u8], at: usize) -> usize {
+    let published = pass_sign(line, at, b'p');
+    if published == NOWHERE {
+        pass_sign(line, at, b'r')
+    } else {
+        published
+    }
+}
+
+// What follows the `x` before the block's digits, in a line that asks for a full walk or a plain one.
+pub(crate) fn digits_on(line: &[u8], full: bool) -> &[u8] {
+    let by = pass_by(line, pass_kind(line, full));
+    rest(line, pass_sign(line, by, b'x'))
 }
 
 // The value of a hexadecimal digit, 16 of any other byte.
 fn nibble(byte: u8) -> u8 {
-    if byte < 48 {
-        return 16;
+    match byte {
+        48..=57 => byte - 48,
+        97..=102 => byte - 87,
+        _ => 16,
     }
-    if byte < 58 {
-        return byte - 48;
-    }
-    if byte < 97 {
-        return 16;
-    }
-    if byte < 103 {
-        return byte - 87;
-    }
-    16
 }
 
-// What two digits spell.
-enum Pair {
-    Byte(u8),
-    NoDigits,
+// The digit at a place, 16 behind the end.
+fn nibble_at(digits: &[u8], at: usize) -> u8 {
+    if at < digits.len() {
+        nibble(digits[at])
+    } else {
+        16
+    }
 }
 
-// The byte that the two digits at a place spell.
-fn pair_at(digits: &[u8], at: usize) -> Pair {
-    let high = nibble(byte_at(digits, at));
-    let low = nibble(byte_at(digits, behind(at)));
-    if 15 < high {
-        return Pair::NoDigits;
-    }
-    if 15 < low {
-        return Pair::NoDigits;
-    }
-    Pair::Byte(high * 16 + low)
-}
-
-// The bytes that pairs of digits spell, at the start of an array, and how many there are.
-pub(crate) fn decode(digits: &[u8], buf: &mut [u8; BYTES]) -> usize {
+// The block that pairs of digits spell, at the start of an array, and how many bytes it has.
+pub(crate) fn decode(digits: &[u8], buf: &mut [u8; BYTES]) -> usize
+    ensures { λ r. ⌜ r ≤ 4096 ⌝ }
+{
     let mut n = 0;
     while n < BYTES {
-        let pair = pair_at(digits, 2 * n);
-        let Pair::Byte(byte) = pair else {
+        let high = nibble_at(digits, 2 * n);
+        let low = nibble_at(digits, 2 * n + 1);
+        if 15 < high {
             return n;
-        };
-        buf[n] = byte;
+        }
+        if 15 < low {
+            return n;
+        }
+        buf[n] = high * 16 + low;
         n += 1;
     }
     n
-}
-
-// Whether all digits were decoded.
-pub(crate) fn is_decoded(digits: &[u8], n: usize) -> bool {
-    digits.len() / 2 == n && digits.len() % 2 == 0
 }

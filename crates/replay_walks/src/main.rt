@@ -8,20 +8,19 @@ mod steps;
 mod tally;
 mod words;
 
+use bytes::scan::find;
+use fields::part::Part;
+use fields::part::bytes_of;
 use line::BYTES;
 use line::Kind;
-use line::answer_of;
-use line::behind;
-use line::cut;
 use line::decode;
-use line::digits_of;
-use line::find;
-use line::is_decoded;
-use line::is_question;
+use line::digits_on;
 use line::kind_of;
+use line::rest;
 use protobuf::refusal::Refusal;
+use std::num::wrapping_add_usize;
+use steps::How;
 use steps::Passed;
-use steps::Way;
 use steps::pass_walk;
 use tally::Counts;
 use tally::Outcome;
@@ -34,6 +33,7 @@ use tally::print_tally;
 use wire::record::WireBlock;
 use wire::scan::BlockScan;
 use wire::scan::scan;
+use words::NOWHERE;
 use words::pass_refusal;
 use words::pass_text;
 
@@ -59,8 +59,8 @@ fn outcome_of(text: &[u8], a: Passed, b: Passed) -> Outcome {
 
 // Both walks over a scanned block.
 fn walk_both(text: &[u8], s: &[u8], block: WireBlock, full: bool) -> Outcome {
-    let a = pass_walk(text, s, block, Way { full, other: false });
-    let b = pass_walk(text, s, block, Way { full, other: true });
+    let a = pass_walk(text, s, block, How { full, other: false });
+    let b = pass_walk(text, s, block, How { full, other: true });
     outcome_of(text, a, b)
 }
 
@@ -74,15 +74,20 @@ fn unscanned(text: &[u8], n: Refusal) -> Outcome {
     }
 }
 
-// The place behind a table; of one that is longer than the array, a place that is not in it.
-fn behind_table(table: usize, count: usize) -> usize {
-    if BYTES < count {
-        return behind(BYTES);
+// A scanned block with its tables: the buffer up to the end of its group table, which has fewer entries than the array has bytes.
+fn block_and_tables(buffer: &[u8], block: WireBlock) -> &[u8] {
+    if BYTES < block.groups {
+        return &buffer[0..0];
     }
-    if BYTES < table {
-        return behind(BYTES);
-    }
-    table + 8 * count
+    let len = wrapping_add_usize(block.grouptable, 8 * block.groups);
+    bytes_of(
+        buffer,
+        Part {
+            present: true,
+            start: 0,
+            len,
+        },
+    )
 }
 
 // The block in the first `len` bytes of a buffer, scanned there. Behind its tables the buffer is cut off.
@@ -91,8 +96,7 @@ fn walk_block(text: &[u8], buffer: &mut [u8], len: usize, full: bool) -> Outcome
     match r {
         BlockScan::Refused(n) => unscanned(text, n),
         BlockScan::Scanned(block) => {
-            let end = behind_table(block.grouptable, block.groups);
-            walk_both(text, cut(buffer, 0, end), block, full)
+            walk_both(text, block_and_tables(buffer, block), block, full)
         }
     }
 }
@@ -102,18 +106,16 @@ fn walk_array(text: &[u8], buf: &mut [u8; BYTES], len: usize, full: bool) -> Out
     walk_block(text, buf, len, full)
 }
 
-// The question of a line.
+// The question of a line, for a full walk or a plain one. Its digits go on to an equals sign, and behind that is the answer's text.
 fn ask(line: &[u8], full: bool) -> Outcome {
-    if !is_question(line) {
-        return Outcome::NotRead;
-    }
     let mut buf = [0xa5u8; BYTES];
-    let digits = digits_of(line);
+    let digits = digits_on(line, full);
     let len = decode(digits, &mut buf);
-    if !is_decoded(digits, len) {
+    let answer = pass_text(digits, 2 * len, b" =");
+    if answer == NOWHERE {
         return Outcome::NotRead;
     }
-    walk_array(answer_of(line), &mut buf, len, full)
+    walk_array(rest(digits, answer), &mut buf, len, full)
 }
 
 // A line that differs or cannot be read is printed whole.
@@ -154,19 +156,14 @@ fn take_line(t: Tally, line: &[u8]) -> Tally {
     next
 }
 
-// All lines of the list, which has no more of them than bytes.
+// All lines of the list.
 fn take_lines(list: &[u8]) -> Tally {
     let mut t = nothing();
     let mut from = 0;
-    let mut turns = 0;
-    while turns < list.len() {
-        if list.len() <= from {
-            return t;
-        }
-        let to = find(list, from, b'\n');
-        t = take_line(t, cut(list, from, to));
-        from = behind(to);
-        turns += 1;
+    while from < list.len() {
+        let to = find(list, from, list.len(), b'\n');
+        t = take_line(t, &list[from..to]);
+        from = to + 1;
     }
     t
 }

@@ -8,8 +8,9 @@ use walk::block_elements::Said;
 use walk::state::BlockElementsIter;
 use wire::record::WireBlock;
 
-// How a block is walked: with metadata, and by which of two calls that give the same: first by `next`, and with tags by `step_raw`.
-pub(crate) struct Way {
+// How a block is walked: with metadata or without, and by which of the calls that give the same: `other` begins with `next`, and has tags by
+// `step_raw`.
+pub(crate) struct How {
     pub(crate) full: bool,
     pub(crate) other: bool,
 }
@@ -39,7 +40,7 @@ fn step_by(s: &[u8], block: WireBlock, walk: BlockElementsIter, next: bool) -> E
 }
 
 // What a step said: an element, the end, or a refusal.
-fn pass_said(text: &[u8], at: usize, s: &[u8], block: WireBlock, way: Way, said: Said) -> Passed {
+fn pass_said(text: &[u8], at: usize, s: &[u8], block: WireBlock, how: How, said: Said) -> Passed {
     match said {
         Said::Ended => Passed {
             at: pass_end(text, at),
@@ -56,7 +57,7 @@ fn pass_said(text: &[u8], at: usize, s: &[u8], block: WireBlock, way: Way, said:
             message: _,
             element,
         } => Passed {
-            at: pass_element(text, at, s, block, way.full, way.other, group, element),
+            at: pass_element(text, at, s, block, how.full, how.other, group, element),
             over: false,
             refused: false,
         },
@@ -86,15 +87,15 @@ fn close(s: &[u8], block: WireBlock, last: Passed, behind: BlockElementsIter) ->
 }
 
 // A block's walk, by `step` and `next` in turn.
-pub(crate) fn pass_walk(text: &[u8], s: &[u8], block: WireBlock, way: Way) -> Passed {
-    let mut place = start_walk(way.full);
-    let mut next = way.other;
+pub(crate) fn pass_walk(text: &[u8], s: &[u8], block: WireBlock, how: How) -> Passed {
+    let mut place = start_walk(how.full);
+    let mut next = how.other;
     let mut at = 0;
     let mut steps = 0;
     while steps < text.len() {
         let r = step_by(s, block, place, next);
         let said = r.said;
-        let p = pass_said(text, at, s, block, way, said);
+        let p = pass_said(text, at, s, block, how, said);
         place = r.next;
         at = p.at;
         if p.over {

@@ -1,4 +1,4 @@
--- `take_lines` is safe and ends. Nothing has to hold from turn to turn; the measure is the turns that are left. Assumes nothing.
+-- `take_lines` is safe and ends. Nothing has to hold from turn to turn; the measure is what is left of the list. Assumes nothing.
 use borrow.Author.Needs.{needs}
 use Prim.Native.Nat.{_-_}
 use lib.ListN.{length}
@@ -6,10 +6,10 @@ use Rattle.replay_walks.proofs.take_lines.Statement.{statement}
 use Rattle.replay_walks.proofs.take_lines.Tie as tie
 
 abbrev Inv-loop : tie.InvT-loop
-Inv-loop list t₀ from₀ turns₀ t from turns = Unit {0}
+Inv-loop list t₀ from₀ t from = Unit {0}
 
 abbrev μ-loop : tie.MeasureT-loop
-μ-loop list t₀ from₀ turns₀ t from turns = length list - turns
+μ-loop list t₀ from₀ t from = length list - from
 
 pub take-lines-spec : {M : Type 1} → statement M
 take-lines-spec =
@@ -19,10 +19,10 @@ take-lines-spec =
     μ-loop
     (λ c κs. search needs)
     (λ c. search needs)
+    (λ c κs. search needs)
     (λ c. search needs)
-    (λ c κs. search needs)
-    (λ c κs. search needs)
-    (λ c κs. search needs)
+    (λ c. search needs)
+    (λ c. search needs)
     (λ c κs. search needs)
     (λ c. search needs)
     (λ c. search needs)
