@@ -5,5 +5,6 @@ pub mod Walks
 pub mod Scanned
 pub mod Check
 pub mod ScanLeft
+pub mod Same
 pub mod Chains
 pub mod ChainTies

@@ -4,4 +4,5 @@ pub mod Group
 pub mod Check
 pub mod Walks
 pub mod Chains
+pub mod Same
 pub mod Worked

@@ -3,20 +3,22 @@
 use Prim.Native.Nat.{ℕ}
 use mathlib.Core.Path.{_≡_, refl}
 use mathlib.Core.List.{List, [], _∷_, _++_}
+use mathlib.Core.Bool.{true, false}
 use lib.ListN.{take, replicate}
-use Rattle.protobuf.specs.declared.refusal.Refusal.the-variants.{Outside}
+use Rattle.protobuf.specs.declared.refusal.Refusal.the-variants.{SecondDense, Outside}
 use Rattle.protobuf.specs.Read.{andThen}
 use Rattle.numbers.specs.Little.{little, bytes, numberAt}
 use Rattle.numbers.specs.Signed.{signed, twos, residue, wrap}
 use Rattle.protobuf.specs.Varint.{digits, varint}
 use Rattle.protobuf.specs.Tag.{legal, tag, tagAt}
 use Rattle.message.specs.Payload.{rawVarint, fixed, counted, lengthDelimited, valueBy, fieldIn, fieldsOf, groupBy, payload}
-use Rattle.protobuf.specs.Stream.{unrolled}
+use Rattle.protobuf.specs.Stream.{unrolled, mapped}
 use Rattle.message.specs.Message.{fieldAt, messageFrom}
+use Rattle.protobuf.specs.Column.{valueAt, columnFrom, sumsFrom}
 use Rattle.fields.specs.Outcome.{kept, refused, onward, each}
 use Rattle.fields.specs.Part.{partBy}
 use Rattle.fields.specs.Parts.{partsOf, messagesOf}
-use Rattle.fields.specs.View.{columnPart, infoPart, put, store, viewFrom, view}
+use Rattle.fields.specs.View.{columnPart, infoPart, put, store, viewFrom, view, viewIn}
 use Rattle.lookup.specs.declared.by_number.Got.the-variants as got
 use Rattle.wire.specs.Block.{lastOf, chosenTable}
 use Rattle.wire.specs.Tables.{entries}
@@ -24,15 +26,25 @@ use Rattle.wire.specs.Scan.{tablesStage, stringsStage, fieldsStage, scanned}
 use Rattle.lookup.specs.Lookup.{getAt, groupAt, stringParts}
 use Rattle.groups.specs.declared.classify.BlockType.the-variants.{Empty, Nodes, DenseNodes}
 use Rattle.groups.specs.Classify.{blockType}
-use Rattle.groups.specs.Group.{denseFrom}
-use Rattle.block.specs.Check.{all, checkGroup}
+use Rattle.groups.specs.Group.{denseFrom, denseIn}
+use Rattle.block.specs.Columns.{columnIn, countOf}
+use Rattle.block.specs.Check.{all, agreed, elementBy, checkGroup}
+use Rattle.columns.specs.InStep.{ahead, startOf}
+use Rattle.columns.specs.Zip.{zip}
+use Rattle.elements.specs.Tags.{foundTags, rawTagsFrom, tagsBy}
 use Rattle.accept.specs.Accept.{partsAt, checkedIn}
+use Rattle.kinds.specs.Loose.{viewedAll}
+use Rattle.walk.specs.Walk.{_then_, groupsFrom, testedFrom}
+use Rattle.walk.specs.Same.{sameStream, sameWalks}
+use Rattle.same.specs.Listing.{sameListing}
 use Rattle.answers.specs.Words.{words}
+use Rattle.answers.specs.Codes.{answerAfter}
 use Rattle.answers.specs.Record.{recordIn}
 use Rattle.nuorpyts.specs.Block.{scanAfter, getIn, gotCode, gotAfter, groupIn}
 use Rattle.nuorpyts.specs.Group.{kindIn}
 use Rattle.nuorpyts.specs.Check.{checkCode}
 use Rattle.nuorpyts.specs.Walks.{roleIn, ownRole, nanoIn}
+use Rattle.nuorpyts.specs.Same.{sameIn, sameWords}
 
 -- a slice of n bytes that nothing was written to
 abbrev blank : ℕ → List ℕ
@@ -62,6 +74,20 @@ named = 0x0A ∷ 0x03 ∷ 0x0A ∷ 0x01 ∷ 0x61 ∷ []
 -- a record of granularity 10, with offsets 3 and −4
 abbrev shifted : List ℕ
 shifted = words (0 ∷ 0 ∷ 0 ∷ 0 ∷ 0 ∷ 10 ∷ 1000 ∷ 3 ∷ 0xFFFFFFFFFFFFFFFC ∷ [])
+
+-- blocks as scans leave them, with their records: one of no groups; one of a way, by its id; and one that the check refuses, of two dense
+-- messages
+abbrev empty : List ℕ
+empty = recordBytes 0 0 0 0 0
+
+abbrev wayOf : ℕ → List ℕ
+wayOf id = 0x12 ∷ 0x04 ∷ 0x1A ∷ 0x02 ∷ 0x08 ∷ id ∷ entry 2 4
+
+abbrev twoDense : List ℕ
+twoDense = 0x12 ∷ 0x04 ∷ 0x12 ∷ 0x00 ∷ 0x12 ∷ 0x00 ∷ entry 2 4
+
+abbrev oneGroup : List ℕ
+oneGroup = recordBytes 6 0 6 1 6
 
 pub record Worked : Type 0 where
   -- a scan writes the tables right behind the block, where there is room for the record
@@ -117,9 +143,21 @@ pub record Worked : Type 0 where
   pub nano-negative : nanoIn shifted 0xFFFFFFFFFFFFFFFF 0 ≡ kept (0xFFFFFFFFFFFFFFF9 ∷ 0xFFFFFFFFFFFFFFFC ∷ [])
   pub nano-wraps : nanoIn rec 0x7FFFFFFFFFFFFFFF 0x4000000000000001 ≡ kept (0xFFFFFFFFFFFFFF9C ∷ 100 ∷ [])
   pub nano-no-record : nanoIn (take 71 rec) 5 7 ≡ refused Outside
+  -- whether two blocks list the same, through the records in two slices: what is no record is 14, before any number of the check
+  pub same-way : sameIn (wayOf 7) oneGroup (wayOf 7) oneGroup ≡ kept true
+  pub another-way : sameIn (wayOf 7) oneGroup (wayOf 8) oneGroup ≡ kept false
+  pub another-granularity : sameIn [] empty [] shifted ≡ kept false
+  pub first-refused : sameIn twoDense oneGroup [] empty ≡ refused SecondDense
+  pub second-refused : sameIn [] empty twoDense oneGroup ≡ refused SecondDense
+  pub first-no-record : sameIn [] (take 71 empty) twoDense oneGroup ≡ refused Outside
+  pub second-no-record : sameIn twoDense oneGroup [] (take 71 empty) ≡ refused Outside
+  pub first-outside : sameIn [] oneGroup twoDense oneGroup ≡ refused Outside
+  pub second-outside : sameIn twoDense oneGroup [] oneGroup ≡ refused Outside
+  pub same-is-one : answerAfter sameWords (blank 9) (kept true) ≡ words (1 ∷ []) ++ blank 1
+  pub other-is-zero : answerAfter sameWords (blank 9) (kept false) ≡ words (0 ∷ []) ++ blank 1
 
 pub worked : Worked
-unfolding little bytes numberAt columnPart infoPart put store viewFrom view entries tablesStage stringsStage fieldsStage scanned signed twos residue wrap andThen digits varint legal tag tagAt rawVarint fixed counted lengthDelimited valueBy fieldIn fieldsOf groupBy payload unrolled fieldAt messageFrom onward each partsOf messagesOf lastOf chosenTable getAt groupAt stringParts blockType denseFrom all checkGroup partsAt checkedIn words recordIn kindIn
+unfolding little bytes numberAt columnPart infoPart put store viewFrom view entries tablesStage stringsStage fieldsStage scanned signed twos residue wrap andThen digits varint legal tag tagAt rawVarint fixed counted lengthDelimited valueBy fieldIn fieldsOf groupBy payload unrolled fieldAt messageFrom onward each partsOf messagesOf lastOf chosenTable getAt groupAt stringParts blockType denseFrom all checkGroup partsAt checkedIn words recordIn kindIn mapped valueAt columnFrom sumsFrom viewIn denseIn columnIn countOf agreed elementBy ahead startOf zip foundTags rawTagsFrom tagsBy viewedAll _then_ groupsFrom testedFrom sameStream sameWalks sameListing
 worked =
     record {
       scan-tables = refl;
@@ -169,4 +207,15 @@ worked =
       nano-negative = refl;
       nano-wraps = refl;
       nano-no-record = refl;
+      same-way = refl;
+      another-way = refl;
+      another-granularity = refl;
+      first-refused = refl;
+      second-refused = refl;
+      first-no-record = refl;
+      second-no-record = refl;
+      first-outside = refl;
+      second-outside = refl;
+      same-is-one = refl;
+      other-is-zero = refl;
     }

@@ -3,6 +3,7 @@
 pub mod blocks;
 pub mod check;
 pub mod group;
+pub mod listings;
 pub mod messages;
 pub mod positions;
 pub mod sub_walks;

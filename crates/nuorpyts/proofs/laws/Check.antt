@@ -7,7 +7,6 @@ use lib.ListN.{length, take}
 use Rattle.protobuf.specs.declared.refusal.Refusal.the-variants.{Outside}
 use Rattle.wire.specs.declared.record.WireBlock.{WireBlock}
 use Rattle.fields.specs.Outcome.{Outcome, kept, refused, onward}
-use Rattle.fields.proofs.laws.Outcome.{kept-same}
 use Rattle.block.specs.Check.{checked}
 use Rattle.accept.specs.Accept.{checkedIn}
 use Rattle.wire.specs.Scan.{Scanned-as}
@@ -15,7 +14,7 @@ use Rattle.answers.specs.Codes.{codeOf}
 use Rattle.answers.specs.Record.{recordIn}
 use Rattle.nuorpyts.specs.Block.{Scanned-in}
 use Rattle.nuorpyts.specs.Check.{checkCode}
-use Rattle.nuorpyts.proofs.laws.Scanned.{scan-read}
+use Rattle.nuorpyts.proofs.laws.Scanned.{scan-read, as-read}
 
 module _ (s rec : List ℕ) (fits : length s < 2 ^ 64) where
   -- by the record in the slice, and where a scan left it by the block's bytes
@@ -28,8 +27,4 @@ module _ (s rec : List ℕ) (fits : length s < 2 ^ 64) where
 
   pub check-with-record : {r : WireBlock} {c : Outcome Unit} {code : ℕ} → recordIn rec ≡ kept r → c ≡ checkedIn s r → ((b : List ℕ) (n : ℕ) → Scanned-as s r b n → c ≡ checked (take n b)) → code ≡ codeOf c → CheckAnswered code
   unfolding onward
-  check-with-record e g k q = (
-    q ∙ ap codeOf g ∙ rw e,
-    λ b n h.
-        q ∙ ap codeOf (k b n (record { scan = h .scan; so = h .so; buffer = h .buffer; meta = kept-same (sym e ∙ scan-read fits h) })),
-  )
+  check-with-record e g k q = (q ∙ ap codeOf g ∙ rw e, λ b n h. q ∙ ap codeOf (k b n (as-read fits h e)))

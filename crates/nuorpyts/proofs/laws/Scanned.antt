@@ -16,6 +16,7 @@ use Rattle.protobuf.specs.declared.refusal.Refusal.the-variants.{BlockTooLong, 
 use Rattle.protobuf.specs.Refusal.{number}
 use Rattle.fields.specs.declared.part.Part.{Part}
 use Rattle.fields.specs.Outcome.{Outcome, kept, onward}
+use Rattle.fields.proofs.laws.Outcome.{kept-same}
 use Rattle.wire.specs.declared.record.WireBlock.{WireBlock}
 use Rattle.lookup.specs.declared.by_number.Got.{Got}
 use Rattle.lookup.specs.declared.by_number.Got.the-variants as got
@@ -66,6 +67,10 @@ scan-read {s} {rec} {b} {n} fits h =
 module _ {s rec : List ℕ} (fits : length s < 2 ^ 64) {b : List ℕ} {n : ℕ} (h : Scanned-in s rec b n) where
   pub as-scanned : Scanned-as s (h .scan .block) b n
   as-scanned = record { scan = h .scan; so = h .so; buffer = h .buffer; meta = refl }
+
+  -- by the record that is read
+  pub as-read : {r : WireBlock} → recordIn rec ≡ kept r → Scanned-as s r b n
+  as-read e = record { scan = h .scan; so = h .so; buffer = h .buffer; meta = kept-same (sym e ∙ scan-read fits h) }
 
   own-string : (index : ℕ) → getIn s rec index ≡ stringOf (take n b) index
   own-string index = ap (λ (x : Outcome WireBlock). gotBy x λ r. getAt s r index) (scan-read fits h) ∙ scanned-get as-scanned index
