@@ -585,6 +585,24 @@ uint32_t nuorpyts_members(const uint8_t *buffer, size_t buffer_len, const uint8_
  * Writes: the 16 bytes. */
 uint32_t nuorpyts_role(const uint8_t *buffer, size_t buffer_len, const uint8_t *record, size_t record_len, size_t role, uint8_t *out, size_t out_len);
 
+/* ---- whether two blocks list the same: one number */
+
+#define NUORPYTS_SAME_SIZE 8u
+#define NUORPYTS_SAME_NO 0u
+#define NUORPYTS_SAME_YES 1u
+
+/* Says whether two scanned blocks list the same: granularity, offsets and the number of groups, and what plain walks give of them, element by
+ * element: group, kind, id, raw position, tags, references and members, tags and roles by their texts.
+ * Takes: the buffer of each block, with the record's bytes as nuorpyts_scan gave them. Both may be the same.
+ * Gives: 1 where they do and 0 where they do not, in 8 bytes of `out`. On what nuorpyts_scan left of two blocks that nuorpyts_check accepts,
+ * it is 1 exactly where they store the same: metadata, date granularity, strings that nothing shows, unknown fields and longer spellings
+ * of a number make no difference.
+ * Refuses: 14 where `out` is shorter than 8 bytes, either record is shorter than 72 or has a granularity that is no int32, a block or a table
+ * of a record passes its buffer, or the range of any group does; then what nuorpyts_check refuses of the first block, then what it refuses
+ * of the second; then 14 where the walks come to a text whose range passes the buffer, which no scan leaves.
+ * Writes: the 8 bytes. */
+uint32_t nuorpyts_same_listing(const uint8_t *first, size_t first_len, const uint8_t *first_record, size_t first_record_len, const uint8_t *second, size_t second_len, const uint8_t *second_record, size_t second_record_len, uint8_t *out, size_t out_len);
+
 #ifdef __cplusplus
 }
 #endif

@@ -1,5 +1,6 @@
 /* Holds the header's walks to the library: a block made by hand is walked plain and full, its elements' tags, references and members too,
- * one by one and in batches, and every number of every item stands at its place. calls.h has what all of them refuse. C99 and C++11. */
+ * one by one and in batches, and every number of every item stands at its place; and it is compared with blocks that differ in one byte.
+ * calls.h has what all walks refuse. C99 and C++11. */
 #include "calls.h"
 
 /* ---- the block */
@@ -323,6 +324,73 @@ static void nanodegrees(void) {
     EXPECT(nuorpyts_nanodegrees(record, sizeof record - 1, 4, 4, out, ROOM) == NUORPYTS_OUTSIDE && is_filled(out, 0));
 }
 
+/* ---- two blocks */
+
+static uint32_t same(const struct read *a, const struct read *b, uint8_t *out, size_t out_len) {
+    return nuorpyts_same_listing(a->buffer, a->len, a->record, a->record_len, b->buffer, b->len, b->record, b->record_len, out, out_len);
+}
+
+/* What is said of two blocks, both ways round. */
+static void compares(const struct read *a, const struct read *b, uint64_t number) {
+    uint8_t out[ROOM];
+    SIZED(NUORPYTS_SAME_SIZE, same(a, b, out, out_len));
+    EXPECT(nuorpyts_read_number(out) == number);
+    SIZED(NUORPYTS_SAME_SIZE, same(b, a, out, out_len));
+    EXPECT(nuorpyts_read_number(out) == number);
+}
+
+static void refuses_both(const struct read *a, const struct read *b, uint32_t code) {
+    uint8_t out[ROOM];
+    fill(out);
+    EXPECT(same(a, b, out, ROOM) == code && is_filled(out, 0));
+}
+
+/* The block with one byte changed before its scan. */
+static void scan_changed(struct read *to, uint8_t *bytes, uint8_t *rec, size_t place, uint8_t byte) {
+    memcpy(bytes, block, sizeof block);
+    bytes[place] = byte;
+    EXPECT(nuorpyts_scan(bytes, BUFFER, sizeof block, rec, NUORPYTS_RECORD_SIZE) == NUORPYTS_OK);
+    to->buffer = bytes;
+    to->len = BUFFER;
+    to->record = rec;
+    to->record_len = NUORPYTS_RECORD_SIZE;
+}
+
+static void same_listing(void) {
+    uint8_t bytes[BUFFER], rec[NUORPYTS_RECORD_SIZE], changed[BUFFER];
+    struct read other, outside;
+    now = "same listing";
+    compares(&whole, &whole, NUORPYTS_SAME_YES);
+    /* another version in the DenseInfo; another latitude, member's role and granularity */
+    scan_changed(&other, bytes, rec, 29, 0x04);
+    compares(&whole, &other, NUORPYTS_SAME_YES);
+    scan_changed(&other, bytes, rec, 48, 0x06);
+    compares(&whole, &other, NUORPYTS_SAME_NO);
+    scan_changed(&other, bytes, rec, 106, 0x02);
+    compares(&whole, &other, NUORPYTS_SAME_NO);
+    scan_changed(&other, bytes, rec, 124, 0x66);
+    compares(&whole, &other, NUORPYTS_SAME_NO);
+    /* a latitude that is cut: the check's number, behind every 14 */
+    scan_changed(&other, bytes, rec, 48, 0x80);
+    refuses_both(&whole, &other, NUORPYTS_VARINT_CUT);
+    refuses_both(&other, &whole, NUORPYTS_VARINT_CUT);
+    outside = whole;
+    outside.record_len--;
+    refuses_both(&outside, &other, NUORPYTS_OUTSIDE);
+    refuses_both(&other, &outside, NUORPYTS_OUTSIDE);
+    outside = whole;
+    outside.len = sizeof block;
+    refuses_both(&outside, &other, NUORPYTS_OUTSIDE);
+    refuses_both(&other, &outside, NUORPYTS_OUTSIDE);
+    /* a table entry of a string that a tag shows, changed behind the scan */
+    memcpy(changed, buffer, BUFFER);
+    changed[NUORPYTS_STRINGTABLE_PLACE(sizeof block) + NUORPYTS_ENTRY_SIZE + NUORPYTS_ENTRY_LENGTH + 3] = 0x01;
+    outside = whole;
+    outside.buffer = changed;
+    refuses_both(&whole, &outside, NUORPYTS_OUTSIDE);
+    refuses_both(&outside, &outside, NUORPYTS_OUTSIDE);
+}
+
 int main(void) {
     scan();
     elements(&by_step);
@@ -333,5 +401,6 @@ int main(void) {
     has_tags();
     role();
     nanodegrees();
+    same_listing();
     return expected();
 }

@@ -9,7 +9,7 @@ use reader::{DenseNodes, Mode, Node, Record, Relation, Way};
 
 use crate::by_c;
 use crate::by_published;
-use crate::by_reader;
+use crate::by_reader::{self, Opened};
 use crate::known::GOES_ON;
 use crate::pairs::Pairs;
 use crate::question::{Ask, PAYLOAD, lookups, strange_lookups};
@@ -22,6 +22,9 @@ const THROUGH_C: &str = "through C";
 /// Questions that are put to C alone, or by what no scan left.
 const FORGED: &str = "forged";
 const CHANGED: &str = "changed";
+
+/// Whether two blocks list the same.
+const SAME: &str = "same";
 
 /// What a changed byte is changed by: its lowest bit, that which says whether a
 /// varint goes on, and both with some between.
@@ -87,14 +90,15 @@ impl Judge {
     /// A byte of a scanned buffer changed behind the scan, in the block or in
     /// the tables: the walks by the record of before, without asking the check.
     pub fn changed(&mut self, bytes: &[u8]) {
-        let Ok((buffer, record)) = by_reader::open(bytes) else {
+        let Ok((scanned, record)) = by_reader::open(bytes) else {
             return;
         };
-        for at in 0..buffer.len() {
+        for at in 0..scanned.len() {
             for change in CHANGES {
-                let mut buffer = buffer.clone();
+                let mut buffer = scanned.clone();
                 buffer[at] ^= change;
                 self.walks(&buffer, &record);
+                self.beside(&buffer, &scanned, &record);
             }
         }
     }
@@ -112,6 +116,48 @@ impl Judge {
                 let other = (THROUGH_C, &proved[..]);
                 self.tally.unexplained(ask, buffer, &reader, other);
             }
+        }
+    }
+
+    /// Two blocks: whether they list the same, both ways round. Where both are
+    /// accepted, that is whether their listings are equal, and so their
+    /// contents.
+    pub fn pair(&mut self, one: &[u8], other: &[u8]) {
+        let (Ok(a), Ok(b)) = (by_reader::open(one), by_reader::open(other)) else {
+            return;
+        };
+        let (a, b) = ((&a.0[..], &a.1), (&b.0[..], &b.1));
+        for (first, second) in [(a, b), (b, a)] {
+            let reader = by_reader::same(first, second);
+            self.tally_same(first, &reader, by_c::same_around(first, second));
+        }
+        if by_reader::verdict(one) == 0 && by_reader::verdict(other) == 0 {
+            let listed = reader::listing(one) == reader::listing(other);
+            let contained = reader::content(one) == reader::content(other);
+            let told = format!("0 {}", u8::from(listed));
+            if listed != contained || by_reader::same(a, b) != told {
+                self.tally.broken(SAME, one, " and another block");
+            }
+        }
+    }
+
+    /// A buffer that was changed behind its scan, beside the scanned one.
+    fn beside(&mut self, changed: &[u8], scanned: &[u8], record: &Record) {
+        let (a, b) = ((changed, record), (scanned, record));
+        for (first, second) in [(a, b), (b, a), (a, a)] {
+            let reader = by_reader::same(first, second);
+            self.tally_same(first, &reader, by_c::same(first, second));
+        }
+    }
+
+    fn tally_same(&mut self, first: Opened, reader: &str, proved: Option<String>) {
+        let number = reader.split(' ').next().and_then(|word| word.parse().ok());
+        self.tally.count(SAME, number.unwrap_or(0));
+        let Some(proved) = proved else { return };
+        self.tally.count_through_c(SAME);
+        if proved != reader {
+            let how = format!(" beside another\n  reader: {reader}\n  {THROUGH_C}: {proved}");
+            self.tally.broken(SAME, first.0, &how);
         }
     }
 

@@ -41,7 +41,13 @@ pub fn fixed(judge: &mut Judge) {
     sample_of_three_and_four(1, SHORT, &mut |bytes| both(judge, bytes));
     for (_, block) in fixtures() {
         judge.block(&block);
-        sweep(&block, &mut |bytes| judge.block(bytes));
+        fixtures()
+            .iter()
+            .for_each(|(_, other)| judge.pair(&block, other));
+        sweep(&block, &mut |bytes| {
+            judge.block(bytes);
+            judge.pair(&block, bytes);
+        });
         judge.forged(&block, None);
         judge.changed(&block);
     }
@@ -77,17 +83,21 @@ pub fn random(args: &Args, maps: &[Vec<u8>], judge: &mut Judge) -> u64 {
 }
 
 fn one_round(seed: u64, judge: &mut Judge) {
+    let mut before = structured(seed, BLOCKS).1;
     for index in 0..BLOCKS {
         let block = structured(seed, index).1;
         judge.block(&block);
+        judge.pair(&before, &block);
         if index % FORGED_EVERY == 0 {
             judge.forged(&block, Some(seed));
         }
+        before = block;
     }
     for_each_payload(seed, 1, &mut |_, _, bytes| judge.payload(bytes));
     for_each_pair(seed, 1, &mut |family, one, other| {
         judge.block(one);
         judge.block(other);
+        judge.pair(one, other);
         if family != "changed" && !equal(one, other) {
             judge
                 .tally

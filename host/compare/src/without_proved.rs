@@ -3,6 +3,7 @@
 
 use reader::{Mode, Record};
 
+use crate::by_reader::Opened;
 use crate::question::Ask;
 use crate::tried::Tried;
 
@@ -14,6 +15,14 @@ pub fn answer(_ask: Ask, _bytes: &[u8]) -> Option<String> {
 }
 
 pub fn walked(_buffer: &[u8], _record: &Record, _mode: Mode) -> Option<String> {
+    None
+}
+
+pub fn same(_first: Opened, _second: Opened) -> Option<String> {
+    None
+}
+
+pub fn same_around(_first: Opened, _second: Opened) -> Option<String> {
     None
 }
 

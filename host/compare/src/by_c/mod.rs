@@ -17,6 +17,7 @@ mod lent;
 mod messages;
 mod record;
 mod refusals;
+mod same;
 mod shape;
 mod slotted;
 mod starts;
@@ -28,6 +29,7 @@ mod walk;
 
 use reader::{Mode, Record};
 
+use crate::by_reader::Opened;
 use crate::question::{Ask, Places};
 use crate::tried::Tried;
 
@@ -64,6 +66,19 @@ pub fn answer(ask: Ask, bytes: &[u8]) -> Option<String> {
 /// A walk over a buffer by a record, whether a scan left them so or not.
 pub fn walked(buffer: &[u8], record: &Record, mode: Mode) -> Option<String> {
     Some(walk::walked(buffer, &record::of(record), mode))
+}
+
+/// Whether two blocks list the same, by buffers and records that scans left or
+/// not.
+pub fn same(first: Opened, second: Opened) -> Option<String> {
+    let (a, b) = (record::of(first.1), record::of(second.1));
+    Some(same::answer((first.0, &a), (second.0, &b)))
+}
+
+/// The same, asked also in other slices and by what is no record.
+pub fn same_around(first: Opened, second: Opened) -> Option<String> {
+    let (a, b) = (record::of(first.1), record::of(second.1));
+    Some(same::answer_around((first.0, &a), (second.0, &b)))
 }
 
 /// States that no walk over the block left, each number of each at its edges;

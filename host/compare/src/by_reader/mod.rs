@@ -1,6 +1,7 @@
 //! The simple reader's answers, in the same words as the published Rust's.
 
 mod leaf;
+mod same;
 mod scan;
 mod views;
 mod walk;
@@ -8,6 +9,9 @@ mod walk;
 use reader::{Mode, Record, Refusal};
 
 use crate::question::{Ask, scan_buffer};
+
+/// A buffer and the record that it is read by.
+pub type Opened<'a> = (&'a [u8], &'a Record);
 
 /// The answer in words.
 pub fn answer(ask: Ask, bytes: &[u8]) -> String {
@@ -42,6 +46,14 @@ pub fn answer(ask: Ask, bytes: &[u8]) -> String {
 /// A walk over a buffer by a record, whether a scan left them so or not.
 pub fn walked(buffer: &[u8], record: &Record, mode: Mode) -> String {
     walk::walk(buffer, record, mode)
+}
+
+/// Whether two blocks list the same: 0 and 1 or 0, or the number that is met.
+pub fn same(first: Opened, second: Opened) -> String {
+    match same::same(first, second) {
+        Ok(same) => format!("0 {}", u8::from(same)),
+        Err(number) => number.to_string(),
+    }
 }
 
 /// The number of the scan, or that of the check where the scan took the
