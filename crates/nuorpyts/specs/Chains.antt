@@ -1,6 +1,7 @@
 -- Demand 3 through C: chains of calls in any mix, for one item or for as many as there is room for, over state slots. On the buffer and the record's
 -- slice that a scan left of an accepted block, a chain from the walk's start hands out the block's listing, and a chain from the start of an
--- element's tags, references or members hands out the listing's; never a number.
+-- element's tags, references or members hands out the listing's; never a number. And of any two such blocks the listings are equal exactly
+-- when the contents are.
 use Prim.Native.Nat.{ℕ, _≤_}
 use mathlib.Core.Path.{_≡_}
 use mathlib.Core.List.{List}
@@ -11,6 +12,7 @@ use Rattle.fields.specs.Outcome.{kept}
 use Rattle.wire.specs.declared.record.WireBlock.{WireBlock}
 use Rattle.block.specs.Check.{passed, checked}
 use Rattle.block.specs.Listing.{Element, listing}
+use Rattle.block.specs.Content.{content}
 use Rattle.elements.specs.declared.tags.TagIter.the-variants as tags
 use Rattle.elements.specs.declared.tags.Tag.{Tag}
 use Rattle.elements.specs.declared.references.WayRefIter.the-variants as references
@@ -62,5 +64,17 @@ pub record SubChains (s rec : List ℕ) (r : WireBlock) (p : Put) (e : Element) 
 pub record ListsIn (s rec b : List ℕ) (n : ℕ) : Type 0 where
   pub block : WireBlock
   pub read : recordIn rec ≡ kept block
+  pub granularity : block .granularity ≡ listing (take n b) .granularity
+  pub latoffset : block .latoffset ≡ listing (take n b) .latoffset
+  pub lonoffset : block .lonoffset ≡ listing (take n b) .lonoffset
+  pub groups : block .groups ≡ listing (take n b) .groups
   pub elements : (full : Bool) (slot : List ℕ) (answers : List (Answer Found)) → 272 ≤ length slot → walkAt slot ≡ fresh full → WalkChain s rec slot answers → HandsAll (Shows s block) answers (listing (take n b) .elements)
   pub parts : (p : Put) (e : Element) → Shows s block (foundBy s p) e → SubChains s rec block p e
+
+-- ---- two blocks
+
+pub record WholeIn (s rec b : List ℕ) (n : ℕ) (s′ rec′ b′ : List ℕ) (n′ : ℕ) : Type 0 where
+  pub first : ListsIn s rec b n
+  pub second : ListsIn s′ rec′ b′ n′
+  pub alike : listing (take n b) ≡ listing (take n′ b′) → content (take n b) ≡ content (take n′ b′)
+  pub apart : content (take n b) ≡ content (take n′ b′) → listing (take n b) ≡ listing (take n′ b′)

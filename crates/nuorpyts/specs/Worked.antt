@@ -1,10 +1,11 @@
 -- Worked values: what the definitions here say of concrete bytes. They are proved by computing, so a definition that is changed breaks a row,
 -- whatever the code does. Bytes are hexadecimal.
-use Prim.Native.Nat.{ℕ}
-use mathlib.Core.Path.{_≡_, refl}
+use Prim.Native.Nat.{ℕ, _<_}
+use native.Mathlib.Omega.{arith}
+use mathlib.Core.Path.{_≡_, refl, ap}
 use mathlib.Core.List.{List, [], _∷_, _++_}
 use mathlib.Core.Bool.{true, false}
-use lib.ListN.{take, replicate}
+use lib.ListN.{length, take, replicate}
 use Rattle.protobuf.specs.declared.refusal.Refusal.the-variants.{SecondDense, Outside}
 use Rattle.protobuf.specs.Read.{andThen}
 use Rattle.numbers.specs.Little.{little, bytes, numberAt}
@@ -40,6 +41,7 @@ use Rattle.same.specs.Listing.{sameListing}
 use Rattle.answers.specs.Words.{words}
 use Rattle.answers.specs.Codes.{answerAfter}
 use Rattle.answers.specs.Record.{recordIn}
+use Rattle.walk_calls.specs.Chain.{Answer, Each, none, also, HandsAll, asks-none, hands-some, hands-end}
 use Rattle.nuorpyts.specs.Block.{scanAfter, getIn, gotCode, gotAfter, groupIn}
 use Rattle.nuorpyts.specs.Group.{kindIn}
 use Rattle.nuorpyts.specs.Check.{checkCode}
@@ -219,3 +221,79 @@ worked =
       same-is-one = refl;
       other-is-zero = refl;
     }
+
+-- ---- chains: what answers hand out a list, and what answers do not
+
+abbrev answer : ℕ → List ℕ → Answer ℕ
+answer code items = record { code = code; items = items; slot = [] }
+
+abbrev Handing : List (Answer ℕ) → List ℕ → Type 0
+Handing = HandsAll _≡_
+
+-- the first of answers that hand out a list: some items, and then others, or the end
+data First (a : Answer ℕ) (answers : List (Answer ℕ)) (items : List ℕ) : Type 0 where
+  gives : (shown rest : List ℕ) → a .code ≡ 0 → 0 < length shown → Each _≡_ (a .items) shown → items ≡ shown ++ rest → First a answers items
+  ends : a .code ≡ 101 → a .items ≡ [] → items ≡ [] → Handing answers [] → First a answers items
+
+opened : {a : Answer ℕ} {answers : List (Answer ℕ)} {items : List ℕ} → Handing (a ∷ answers) items → First a answers items
+opened (hands-some {shown = shown} {rest = rest} code some each others) = gives shown rest code some each refl
+opened (hands-end code none-given others) = ends code none-given refl others
+
+pub in-batches : Handing (answer 0 (1 ∷ 2 ∷ []) ∷ answer 0 (3 ∷ []) ∷ answer 101 [] ∷ answer 101 [] ∷ []) (1 ∷ 2 ∷ 3 ∷ [])
+in-batches = hands-some {shown = 1 ∷ 2 ∷ []} refl (omega arith) (also refl (also refl none)) (hands-some {shown = 3 ∷ []} refl (omega arith) (also refl none) (hands-end refl refl (hands-end refl refl asks-none)))
+
+pub not-ended-early : Handing (answer 101 [] ∷ []) (1 ∷ []) → ⊥
+not-ended-early h = by (opened h)
+  where
+    by : First (answer 101 []) [] (1 ∷ []) → ⊥
+    by (gives shown rest code some each is) = omega (arith, code)
+    by (ends code given is others) = omega (arith, ap length is)
+
+pub not-another : Handing (answer 0 (2 ∷ []) ∷ []) (1 ∷ []) → ⊥
+not-another h = by (opened h)
+  where
+    by : First (answer 0 (2 ∷ [])) [] (1 ∷ []) → ⊥
+    by (gives shown rest code some (also e none) is) = let z : _≡_ {A = ℕ} 2 1 = cc in omega arith
+    by (ends code given is others) = omega (arith, code)
+
+pub not-one-left-out : Handing (answer 0 (1 ∷ 3 ∷ []) ∷ []) (1 ∷ 2 ∷ 3 ∷ []) → ⊥
+not-one-left-out h = by (opened h)
+  where
+    by : First (answer 0 (1 ∷ 3 ∷ [])) [] (1 ∷ 2 ∷ 3 ∷ []) → ⊥
+    by (gives shown rest code some (also e (also g none)) is) = let z : _≡_ {A = ℕ} 3 2 = cc in omega arith
+    by (ends code given is others) = omega (arith, code)
+
+pub not-one-more : Handing (answer 0 (1 ∷ []) ∷ []) [] → ⊥
+not-one-more h = by (opened h)
+  where
+    by : First (answer 0 (1 ∷ [])) [] [] → ⊥
+    by (gives shown rest code some (also e none) is) = omega (arith, ap length is)
+    by (ends code given is others) = omega (arith, code)
+
+pub not-none-with-0 : Handing (answer 0 [] ∷ []) (1 ∷ []) → ⊥
+not-none-with-0 h = by (opened h)
+  where
+    by : First (answer 0 []) [] (1 ∷ []) → ⊥
+    by (gives shown rest code some none is) = omega (arith, some)
+    by (ends code given is others) = omega (arith, code)
+
+pub not-some-with-the-end : Handing (answer 101 (1 ∷ []) ∷ []) [] → ⊥
+not-some-with-the-end h = by (opened h)
+  where
+    by : First (answer 101 (1 ∷ [])) [] [] → ⊥
+    by (gives shown rest code some each is) = omega (arith, code)
+    by (ends code given is others) = omega (arith, ap length given)
+
+pub not-refused : (items : List ℕ) → Handing (answer 14 [] ∷ []) items → ⊥
+not-refused items h = by (opened h)
+  where
+    by : First (answer 14 []) [] items → ⊥
+    by (gives shown rest code some each is) = omega (arith, code)
+    by (ends code given is others) = omega (arith, code)
+
+pub not-again : Handing (answer 101 [] ∷ answer 0 (1 ∷ []) ∷ []) [] → ⊥
+not-again h = by (opened h)
+  where
+    by : First (answer 101 []) (answer 0 (1 ∷ []) ∷ []) [] → ⊥
+    by (gives shown rest code some each is) = omega (arith, code)
+    by (ends code given is others) = not-one-more others

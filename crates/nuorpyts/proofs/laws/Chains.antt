@@ -1,5 +1,5 @@
 -- Chains of calls through C list right: what a slot's state has ahead over the record in a slice is what it has ahead over the record, and of an
--- accepted block that is the listing.
+-- accepted block that is the listing. So of two accepted blocks the claim holds that the walk's calls ensure (`whole-in`).
 use Prim.Native.Nat.{ℕ, _^_, _≤_, _<_}
 use mathlib.Core.Path.{_≡_, refl, sym, ap, _∙_, subst}
 use mathlib.Core.List.{List}
@@ -30,7 +30,9 @@ use Rattle.walk.specs.declared.state.BlockElementsIter.{BlockElementsIter}
 use Rattle.walk.specs.declared.state.BlockElementsIter.the-variants as walk
 use Rattle.walk.specs.Walk.{Found, elementsFrom, fresh}
 use Rattle.walk.specs.Shows.{Streams, TagShows, MemberShows, Shows}
+use Rattle.walk.specs.Whole.{Accepted}
 use Rattle.walk.proofs.claim.Listed.{walk-shows}
+use Rattle.walk.proofs.claim.Claim.{lists, whole}
 use Rattle.walk.proofs.claim.Starts.{tags-start, references-start, members-start}
 use Rattle.answers.specs.Record.{recordIn}
 use Rattle.calls.specs.Slots.{withRecord}
@@ -45,7 +47,7 @@ use Rattle.walk_slots.proofs.laws.Back.{ended-put}
 use Rattle.walk_calls.specs.Steps.{Put, foundBy, walkOver, walkIn}
 use Rattle.walk_calls.specs.Chain.{Answer, HandsAll}
 use Rattle.walk_calls.proofs.laws.Chain.{chain-hands}
-use Rattle.nuorpyts.specs.Chains.{Accepted-in, WalkChain, TagChain, RefChain, MemberChain, SubChains, ListsIn}
+use Rattle.nuorpyts.specs.Chains.{Accepted-in, WalkChain, TagChain, RefChain, MemberChain, SubChains, ListsIn, WholeIn}
 use Rattle.nuorpyts.proofs.laws.Scanned.{scan-read, as-scanned}
 
 -- over a record that is read
@@ -97,13 +99,28 @@ module _ (s rec : List ℕ) {r : WireBlock} (read : recordIn rec ≡ kept r) whe
               chain;
         }
 
+accepted-by : {s rec b : List ℕ} {n : ℕ} → length s < 2 ^ 64 → (a : Accepted-in s rec b n) → Accepted s (a .scan .scan .block) b n
+accepted-by fits a = record { scan = as-scanned fits (a .scan); check = a .check }
+
 pub lists-in : {s rec b : List ℕ} {n : ℕ} → length s < 2 ^ 64 → Accepted-in s rec b n → ListsIn s rec b n
 lists-in {s} {rec} fits a =
     let read = scan-read fits (a .scan) in
     let scanned = as-scanned fits (a .scan) in
+    let listed = lists (accepted-by fits a) in
     record {
       block = a .scan .scan .block;
       read = read;
+      granularity = listed .granularity;
+      latoffset = listed .latoffset;
+      lonoffset = listed .lonoffset;
+      groups = listed .groups;
       elements = λ full slot answers long at chain. walk-chain s rec read long at (walk-shows scanned (a .check) full) chain;
       parts = sub-chains s rec read (record-stands scanned);
     }
+
+-- ---- two blocks
+
+pub whole-in : {s rec b s′ rec′ b′ : List ℕ} {n n′ : ℕ} → length s < 2 ^ 64 → length s′ < 2 ^ 64 → Accepted-in s rec b n → Accepted-in s′ rec′ b′ n′ → WholeIn s rec b n s′ rec′ b′ n′
+whole-in fits others x y =
+    let claim = whole (accepted-by fits x) (accepted-by others y) in
+    record { first = lists-in fits x; second = lists-in others y; alike = claim .alike; apart = claim .apart }
