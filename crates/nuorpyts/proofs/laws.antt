@@ -6,5 +6,6 @@ pub mod Scanned
 pub mod Check
 pub mod ScanLeft
 pub mod Same
+pub mod Held
 pub mod Chains
 pub mod ChainTies

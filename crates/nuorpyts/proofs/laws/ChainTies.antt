@@ -1,7 +1,7 @@
 -- The ties of chains to the code: what the entries' own contracts tell a caller is what a chain is made of, and the items of an answer are those that
 -- stand in its slice, as many as the count says. The slots that the starts leave are those that chains begin with: of a walk, and of an
 -- element's tags, references and members, by the bytes that stand in a slice for the element. A contract that promises less breaks this.
-use Prim.Native.Nat.{ℕ, _*_, _≤_, _<_}
+use Prim.Native.Nat.{ℕ, _*_, _^_, _≤_, _<_}
 use mathlib.Core.Path.{_≡_, refl, sym, ap, _∙_}
 use mathlib.Core.List.{List}
 use mathlib.Core.Bool.{Bool, true, false}
@@ -19,6 +19,8 @@ use Rattle.numbers.specs.Little.{written}
 use Rattle.numbers.proofs.laws.Little.{written-length}
 use Rattle.protobuf.specs.Column.{Column}
 use Rattle.fields.specs.Outcome.{Outcome, kept}
+use Rattle.wire.specs.declared.record.WireBlock.{WireBlock}
+use Rattle.block.specs.Listing.{Element}
 use Rattle.elements.specs.declared.tags.Tag.{Tag}
 use Rattle.elements.specs.declared.tags.TagIter.the-variants as tag-state
 use Rattle.elements.specs.declared.references.WayRefIter.the-variants as ref-state
@@ -29,6 +31,7 @@ use Rattle.elements.specs.References.{refsFrom, refsStart}
 use Rattle.elements.specs.Members.{membersStart}
 use Rattle.walk.specs.declared.state.BlockElementsIter.the-variants as walk
 use Rattle.walk.specs.Walk.{Found, fresh}
+use Rattle.walk.specs.Shows.{Shows}
 use Rattle.answers.specs.Words.{words, filled}
 use Rattle.answers.specs.Codes.{codeOf}
 use Rattle.answers.proofs.laws.Words.{words-length}
@@ -39,10 +42,10 @@ use Rattle.calls.specs.Tags.{tagWords, tagsAt, tagsOver, tagsIn, tagItem}
 use Rattle.calls.specs.Members.{memberWords, membersAt, membersOver, membersIn, memberItem}
 use Rattle.calls.specs.Starts.{refsStartIn, tagsStartIn, membersStartIn, startedBy}
 use Rattle.calls.proofs.laws.Starts.{refs-width, tags-width, members-width}
-use Rattle.calls.proofs.laws.Elements.{ElementHeld, refs-started, tags-started, members-started}
 use Rattle.walk_slots.specs.Slot.{walkWords, walkAt}
-use Rattle.walk_calls.specs.Steps.{Put, putWords, ElementsIn, walkOver, walkIn}
+use Rattle.walk_calls.specs.Steps.{Put, foundBy, putWords, ElementsIn, walkOver, walkIn}
 use Rattle.walk_calls.specs.Chain.{callOn, CallPost}
+use Rattle.nuorpyts.proofs.laws.Held.{tags-begin, refs-begin, members-begin}
 use Rattle.nuorpyts.proofs.walks.nuorpyts_walk.Kinds as plain
 use Rattle.nuorpyts.proofs.walks.nuorpyts_walk.Reads as plain-reads
 use Rattle.nuorpyts.proofs.walks.nuorpyts_walk_full.Kinds as full
@@ -180,22 +183,22 @@ module _ (κs : Lfts 5) (a : Dens κs members.ps) (r : ℕ) (e : AtExit (endedOf
       → MemberFinds (now (a .0)) (now (a .1 .0)) (λ items. (now (e .1 .1 .1 .0) ≡ itemsPut 32 memberItem (now (a .1 .1 .1 .0)) 0 items) × (now (e .1 .1 .1 .1 .0) ≡ countAfter (now (a .1 .1 .1 .1 .0)) items)) (now (a .1 .1 .0)) r (now (e .1 .1 .0))
   members-tie told h = finds 64 membersAt memberWords member-state.Ended membersOver (membersIn (now (a .0)) (now (a .1 .0))) _ _ r _ h (told .0) (told .1 .0) (told .1 .1 .0, told .1 .1 .1)
 
--- ---- their starts, at an element as it was put into a slice
+-- ---- their starts, at an element that shows one of the listing, by the bytes that were put for it
 
 module _ (κs : Lfts 2) (a : Dens κs start-tags.ps) (r : ℕ) (e : AtExit (endedOf 2 start-tags.ps start-tags.r) κs) where
-  pub start-tags-tie : start-tags-reads.Learnt κs a r e → (out : List ℕ) → 208 ≤ length out → (p : Put) → ElementHeld (p .element) → now (a .0) ≡ written out 0 (words (putWords p)) → 40 ≤ length (now (a .1 .0))
+  pub start-tags-tie : start-tags-reads.Learnt κs a r e → (s : List ℕ) → length s < 2 ^ 64 → (block : WireBlock) (out : List ℕ) → 208 ≤ length out → (p : Put) {x : Element} → Shows s block (foundBy s p) x → now (a .0) ≡ written out 0 (words (putWords p)) → 40 ≤ length (now (a .1 .0))
       → Starts 40 tagsAt (tagsStart (p .element)) r (now (e .1 .0))
-  start-tags-tie told out room p held is h =
-      started 40 tagsAt tagWords tag-state.Ended (now (a .1 .0)) tags-width h (ap tagsStartIn is ∙ tags-started out room (p .group) (p .message) (p .element) held) (told .0) (told .1 .0) (told .1 .1)
+  start-tags-tie told s fits block out room p h is long =
+      started 40 tagsAt tagWords tag-state.Ended (now (a .1 .0)) tags-width long (ap tagsStartIn is ∙ tags-begin s fits block out room p h) (told .0) (told .1 .0) (told .1 .1)
 
 module _ (κs : Lfts 2) (a : Dens κs start-refs.ps) (r : ℕ) (e : AtExit (endedOf 2 start-refs.ps start-refs.r) κs) where
-  pub start-refs-tie : start-refs-reads.Learnt κs a r e → (out : List ℕ) → 208 ≤ length out → (p : Put) → ElementHeld (p .element) → now (a .0) ≡ written out 0 (words (putWords p)) → 32 ≤ length (now (a .1 .0))
+  pub start-refs-tie : start-refs-reads.Learnt κs a r e → (s : List ℕ) → length s < 2 ^ 64 → (block : WireBlock) (out : List ℕ) → 208 ≤ length out → (p : Put) {x : Element} → Shows s block (foundBy s p) x → now (a .0) ≡ written out 0 (words (putWords p)) → 32 ≤ length (now (a .1 .0))
       → Starts 32 refsAt (refsStart (p .element)) r (now (e .1 .0))
-  start-refs-tie told out room p held is h =
-      started 32 refsAt refWords ref-state.Ended (now (a .1 .0)) refs-width h (ap refsStartIn is ∙ refs-started out room (p .group) (p .message) (p .element) held) (told .0) (told .1 .0) (told .1 .1)
+  start-refs-tie told s fits block out room p h is long =
+      started 32 refsAt refWords ref-state.Ended (now (a .1 .0)) refs-width long (ap refsStartIn is ∙ refs-begin s fits block out room p h) (told .0) (told .1 .0) (told .1 .1)
 
 module _ (κs : Lfts 2) (a : Dens κs start-members.ps) (r : ℕ) (e : AtExit (endedOf 2 start-members.ps start-members.r) κs) where
-  pub start-members-tie : start-members-reads.Learnt κs a r e → (out : List ℕ) → 208 ≤ length out → (p : Put) → ElementHeld (p .element) → now (a .0) ≡ written out 0 (words (putWords p)) → 64 ≤ length (now (a .1 .0))
+  pub start-members-tie : start-members-reads.Learnt κs a r e → (s : List ℕ) → length s < 2 ^ 64 → (block : WireBlock) (out : List ℕ) → 208 ≤ length out → (p : Put) {x : Element} → Shows s block (foundBy s p) x → now (a .0) ≡ written out 0 (words (putWords p)) → 64 ≤ length (now (a .1 .0))
       → Starts 64 membersAt (membersStart (p .element)) r (now (e .1 .0))
-  start-members-tie told out room p held is h =
-      started 64 membersAt memberWords member-state.Ended (now (a .1 .0)) members-width h (ap membersStartIn is ∙ members-started out room (p .group) (p .message) (p .element) held) (told .0) (told .1 .0) (told .1 .1)
+  start-members-tie told s fits block out room p h is long =
+      started 64 membersAt memberWords member-state.Ended (now (a .1 .0)) members-width long (ap membersStartIn is ∙ members-begin s fits block out room p h) (told .0) (told .1 .0) (told .1 .1)
