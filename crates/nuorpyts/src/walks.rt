@@ -39,7 +39,8 @@ pub extern "C" fn nuorpyts_walk_full(state: &mut [u8]) -> u32
 
 // The next element, with the state behind it: 14 where the slot is too short for a state, and 101 where it holds the ended one; both leave
 // it as it is. Else 14 where `out` is too short for an element or `rec` is no record, then what the step refuses, and 101 where there are no
-// more: the slot then holds the ended state, and `out` is as it was.
+// more: the slot then holds the ended state, and `out` is as it was. The last clause is demand 3 through C: what whole chains of these calls
+// hand out, over this buffer and record and over any others of accepted blocks.
 #[no_mangle]
 pub extern "C" fn nuorpyts_step(buffer: &[u8], rec: &[u8], state: &mut [u8], out: &mut [u8]) -> u32
     ensures code { λ r. ⌜ r ≡ callCode (walkCall (now (buffer .entry)) (now (rec .entry)) (now (state .entry)) (oneRoom 208 (now (out .entry)))) ⌝ }
