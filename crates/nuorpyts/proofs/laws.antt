@@ -7,5 +7,6 @@ pub mod Check
 pub mod ScanLeft
 pub mod Same
 pub mod Held
+pub mod Standing
 pub mod Chains
 pub mod ChainTies

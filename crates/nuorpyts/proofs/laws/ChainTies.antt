@@ -1,6 +1,7 @@
 -- The ties of chains to the code: what the entries' own contracts tell a caller is what a chain is made of, and the items of an answer are those that
 -- stand in its slice, as many as the count says. The slots that the starts leave are those that chains begin with: of a walk, and of an
--- element's tags, references and members, by the bytes that stand in a slice for the element. A contract that promises less breaks this.
+-- element's tags, references and members, by the bytes that a walk has put for it (`element-stands`). A contract that promises less breaks
+-- this.
 use Prim.Native.Nat.{ℕ, _*_, _^_, _≤_, _<_}
 use mathlib.Core.Path.{_≡_, refl, sym, ap, _∙_}
 use mathlib.Core.List.{List}
@@ -43,9 +44,10 @@ use Rattle.calls.specs.Members.{memberWords, membersAt, membersOver, membersIn,
 use Rattle.calls.specs.Starts.{refsStartIn, tagsStartIn, membersStartIn, startedBy}
 use Rattle.calls.proofs.laws.Starts.{refs-width, tags-width, members-width}
 use Rattle.walk_slots.specs.Slot.{walkWords, walkAt}
-use Rattle.walk_calls.specs.Steps.{Put, foundBy, putWords, ElementsIn, walkOver, walkIn}
+use Rattle.walk_calls.specs.Steps.{Put, foundBy, ElementsIn, walkOver, walkIn}
 use Rattle.walk_calls.specs.Chain.{callOn, CallPost}
 use Rattle.nuorpyts.proofs.laws.Held.{tags-begin, refs-begin, members-begin}
+use Rattle.nuorpyts.proofs.laws.Standing.{few-singly, few-in-batches, Stands}
 use Rattle.nuorpyts.proofs.walks.nuorpyts_walk.Kinds as plain
 use Rattle.nuorpyts.proofs.walks.nuorpyts_walk.Reads as plain-reads
 use Rattle.nuorpyts.proofs.walks.nuorpyts_walk_full.Kinds as full
@@ -127,23 +129,27 @@ module _ (κs : Lfts 1) (a : Dens κs full.ps) (r : ℕ) (e : AtExit (endedOf 1 
   pub full-tie : full-reads.Learnt κs a r e → 272 ≤ length (now (a .0)) → Starts 272 walkAt (fresh true) r (now (e .0))
   full-tie told h = walk-started true (now (a .0)) h (told .0) (told .1 .0) (told .1 .1)
 
+-- elements that stand in the answer's slice, each in its place
+abbrev Elements : List ℕ → List ℕ → List ℕ → List Found → Type 0
+Elements s out after items = ElementsIn s out items after × (208 * length items ≤ length out)
+
 abbrev WalkFinds : List ℕ → List ℕ → (List Found → Type 0) → List ℕ → ℕ → List ℕ → Type 0
 WalkFinds s rec = Finds 272 walkAt walkWords walk.Ended walkOver (walkIn s rec)
 
 module _ (κs : Lfts 4) (a : Dens κs step.ps) (r : ℕ) (e : AtExit (endedOf 4 step.ps step.r) κs) where
   pub step-tie : step-reads.Learnt κs a r e → 208 ≤ length (now (a .1 .1 .1 .0))
-      → WalkFinds (now (a .0)) (now (a .1 .0)) (λ items. ElementsIn (now (a .0)) (now (a .1 .1 .1 .0)) items (now (e .1 .1 .1 .0))) (now (a .1 .1 .0)) r (now (e .1 .1 .0))
-  step-tie told h = finds 272 walkAt walkWords walk.Ended walkOver (walkIn (now (a .0)) (now (a .1 .0))) _ _ r _ (some-room 208 (now (a .1 .1 .1 .0)) h) (told .0) (told .1 .0) (told .1 .1 .0)
+      → WalkFinds (now (a .0)) (now (a .1 .0)) (Elements (now (a .0)) (now (a .1 .1 .1 .0)) (now (e .1 .1 .1 .0))) (now (a .1 .1 .0)) r (now (e .1 .1 .0))
+  step-tie told h = finds 272 walkAt walkWords walk.Ended walkOver (walkIn (now (a .0)) (now (a .1 .0))) _ _ r _ (some-room 208 (now (a .1 .1 .1 .0)) h) (told .0) (told .1 .0) (told .1 .1 .0, few-singly (now (a .0)) (now (a .1 .0)) (now (a .1 .1 .0)) (now (a .1 .1 .1 .0)))
 
 module _ (κs : Lfts 4) (a : Dens κs next.ps) (r : ℕ) (e : AtExit (endedOf 4 next.ps next.r) κs) where
   pub next-tie : next-reads.Learnt κs a r e → 208 ≤ length (now (a .1 .1 .1 .0))
-      → WalkFinds (now (a .0)) (now (a .1 .0)) (λ items. ElementsIn (now (a .0)) (now (a .1 .1 .1 .0)) items (now (e .1 .1 .1 .0))) (now (a .1 .1 .0)) r (now (e .1 .1 .0))
-  next-tie told h = finds 272 walkAt walkWords walk.Ended walkOver (walkIn (now (a .0)) (now (a .1 .0))) _ _ r _ (some-room 208 (now (a .1 .1 .1 .0)) h) (told .0) (told .1 .0) (told .1 .1 .0)
+      → WalkFinds (now (a .0)) (now (a .1 .0)) (Elements (now (a .0)) (now (a .1 .1 .1 .0)) (now (e .1 .1 .1 .0))) (now (a .1 .1 .0)) r (now (e .1 .1 .0))
+  next-tie told h = finds 272 walkAt walkWords walk.Ended walkOver (walkIn (now (a .0)) (now (a .1 .0))) _ _ r _ (some-room 208 (now (a .1 .1 .1 .0)) h) (told .0) (told .1 .0) (told .1 .1 .0, few-singly (now (a .0)) (now (a .1 .0)) (now (a .1 .1 .0)) (now (a .1 .1 .1 .0)))
 
 module _ (κs : Lfts 5) (a : Dens κs steps.ps) (r : ℕ) (e : AtExit (endedOf 5 steps.ps steps.r) κs) where
   pub steps-tie : steps-reads.Learnt κs a r e → 0 < roomFor 208 (now (a .1 .1 .1 .0)) (now (a .1 .1 .1 .1 .0))
-      → WalkFinds (now (a .0)) (now (a .1 .0)) (λ items. ElementsIn (now (a .0)) (now (a .1 .1 .1 .0)) items (now (e .1 .1 .1 .0)) × (now (e .1 .1 .1 .1 .0) ≡ countAfter (now (a .1 .1 .1 .1 .0)) items)) (now (a .1 .1 .0)) r (now (e .1 .1 .0))
-  steps-tie told h = finds 272 walkAt walkWords walk.Ended walkOver (walkIn (now (a .0)) (now (a .1 .0))) _ _ r _ h (told .0) (told .1 .0) (told .1 .1 .0, told .1 .1 .1 .0)
+      → WalkFinds (now (a .0)) (now (a .1 .0)) (λ items. Elements (now (a .0)) (now (a .1 .1 .1 .0)) (now (e .1 .1 .1 .0)) items × (now (e .1 .1 .1 .1 .0) ≡ countAfter (now (a .1 .1 .1 .1 .0)) items)) (now (a .1 .1 .0)) r (now (e .1 .1 .0))
+  steps-tie told h = finds 272 walkAt walkWords walk.Ended walkOver (walkIn (now (a .0)) (now (a .1 .0))) _ _ r _ h (told .0) (told .1 .0) ((told .1 .1 .0, few-in-batches (now (a .0)) (now (a .1 .0)) (now (a .1 .1 .0)) (now (a .1 .1 .1 .0)) (now (a .1 .1 .1 .1 .0))), told .1 .1 .1 .0)
 
 -- ---- tags, references and members
 
@@ -186,19 +192,19 @@ module _ (κs : Lfts 5) (a : Dens κs members.ps) (r : ℕ) (e : AtExit (endedOf
 -- ---- their starts, at an element that shows one of the listing, by the bytes that were put for it
 
 module _ (κs : Lfts 2) (a : Dens κs start-tags.ps) (r : ℕ) (e : AtExit (endedOf 2 start-tags.ps start-tags.r) κs) where
-  pub start-tags-tie : start-tags-reads.Learnt κs a r e → (s : List ℕ) → length s < 2 ^ 64 → (block : WireBlock) (out : List ℕ) → 208 ≤ length out → (p : Put) {x : Element} → Shows s block (foundBy s p) x → now (a .0) ≡ written out 0 (words (putWords p)) → 40 ≤ length (now (a .1 .0))
+  pub start-tags-tie : start-tags-reads.Learnt κs a r e → (s : List ℕ) → length s < 2 ^ 64 → (block : WireBlock) (p : Put) {x : Element} → Shows s block (foundBy s p) x → Stands p (now (a .0)) → 40 ≤ length (now (a .1 .0))
       → Starts 40 tagsAt (tagsStart (p .element)) r (now (e .1 .0))
-  start-tags-tie told s fits block out room p h is long =
-      started 40 tagsAt tagWords tag-state.Ended (now (a .1 .0)) tags-width long (ap tagsStartIn is ∙ tags-begin s fits block out room p h) (told .0) (told .1 .0) (told .1 .1)
+  start-tags-tie told s fits block p h b long =
+      started 40 tagsAt tagWords tag-state.Ended (now (a .1 .0)) tags-width long (ap tagsStartIn (b .is) ∙ tags-begin s fits block (b .out) (b .room) p h) (told .0) (told .1 .0) (told .1 .1)
 
 module _ (κs : Lfts 2) (a : Dens κs start-refs.ps) (r : ℕ) (e : AtExit (endedOf 2 start-refs.ps start-refs.r) κs) where
-  pub start-refs-tie : start-refs-reads.Learnt κs a r e → (s : List ℕ) → length s < 2 ^ 64 → (block : WireBlock) (out : List ℕ) → 208 ≤ length out → (p : Put) {x : Element} → Shows s block (foundBy s p) x → now (a .0) ≡ written out 0 (words (putWords p)) → 32 ≤ length (now (a .1 .0))
+  pub start-refs-tie : start-refs-reads.Learnt κs a r e → (s : List ℕ) → length s < 2 ^ 64 → (block : WireBlock) (p : Put) {x : Element} → Shows s block (foundBy s p) x → Stands p (now (a .0)) → 32 ≤ length (now (a .1 .0))
       → Starts 32 refsAt (refsStart (p .element)) r (now (e .1 .0))
-  start-refs-tie told s fits block out room p h is long =
-      started 32 refsAt refWords ref-state.Ended (now (a .1 .0)) refs-width long (ap refsStartIn is ∙ refs-begin s fits block out room p h) (told .0) (told .1 .0) (told .1 .1)
+  start-refs-tie told s fits block p h b long =
+      started 32 refsAt refWords ref-state.Ended (now (a .1 .0)) refs-width long (ap refsStartIn (b .is) ∙ refs-begin s fits block (b .out) (b .room) p h) (told .0) (told .1 .0) (told .1 .1)
 
 module _ (κs : Lfts 2) (a : Dens κs start-members.ps) (r : ℕ) (e : AtExit (endedOf 2 start-members.ps start-members.r) κs) where
-  pub start-members-tie : start-members-reads.Learnt κs a r e → (s : List ℕ) → length s < 2 ^ 64 → (block : WireBlock) (out : List ℕ) → 208 ≤ length out → (p : Put) {x : Element} → Shows s block (foundBy s p) x → now (a .0) ≡ written out 0 (words (putWords p)) → 64 ≤ length (now (a .1 .0))
+  pub start-members-tie : start-members-reads.Learnt κs a r e → (s : List ℕ) → length s < 2 ^ 64 → (block : WireBlock) (p : Put) {x : Element} → Shows s block (foundBy s p) x → Stands p (now (a .0)) → 64 ≤ length (now (a .1 .0))
       → Starts 64 membersAt (membersStart (p .element)) r (now (e .1 .0))
-  start-members-tie told s fits block out room p h is long =
-      started 64 membersAt memberWords member-state.Ended (now (a .1 .0)) members-width long (ap membersStartIn is ∙ members-begin s fits block out room p h) (told .0) (told .1 .0) (told .1 .1)
+  start-members-tie told s fits block p h b long =
+      started 64 membersAt memberWords member-state.Ended (now (a .1 .0)) members-width long (ap membersStartIn (b .is) ∙ members-begin s fits block (b .out) (b .room) p h) (told .0) (told .1 .0) (told .1 .1)
