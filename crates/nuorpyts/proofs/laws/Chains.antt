@@ -3,17 +3,16 @@
 use Prim.Native.Nat.{ℕ, _^_, _≤_, _<_}
 use mathlib.Core.Path.{_≡_, refl, sym, ap, _∙_, subst}
 use mathlib.Core.List.{List}
-use mathlib.Core.Bool.{Bool, true, false, true≢false}
-use lib.ListN.{length, take}
+use mathlib.Core.Bool.{true, true≢false}
+use lib.ListN.{length}
 use lib.IntN.{ℤ}
 use Rattle.protobuf.specs.Stream.{end}
 use Rattle.protobuf.specs.Column.{ended, Column}
 use Rattle.fields.specs.Outcome.{Outcome, kept}
 use Rattle.wire.specs.declared.record.WireBlock.{WireBlock}
-use Rattle.wire.specs.Scan.{Scanned-as}
 use Rattle.lookup.specs.Lookup.{isRecordInside}
 use Rattle.lookup.proofs.laws.Scanned.{record-stands}
-use Rattle.block.specs.Listing.{Element, listing}
+use Rattle.block.specs.Listing.{Element}
 use Rattle.elements.specs.declared.tags.TagIter.{TagIter}
 use Rattle.elements.specs.declared.tags.TagIter.the-variants as tags
 use Rattle.elements.specs.declared.tags.Tag.{Tag}
@@ -23,12 +22,11 @@ use Rattle.elements.specs.declared.members.RelMember.{RelMember}
 use Rattle.elements.specs.declared.members.RelMemberIter.{RelMemberIter}
 use Rattle.elements.specs.declared.members.RelMemberIter.the-variants as members
 use Rattle.elements.specs.Tags.{tagsFrom, tagsStart}
-use Rattle.elements.specs.References.{refsFrom, refsStart}
+use Rattle.elements.specs.References.{refsFrom}
 use Rattle.elements.specs.Members.{membersFrom, membersStart}
-use Rattle.elements.specs.Element.{itemOf}
 use Rattle.walk.specs.declared.state.BlockElementsIter.{BlockElementsIter}
 use Rattle.walk.specs.declared.state.BlockElementsIter.the-variants as walk
-use Rattle.walk.specs.Walk.{Found, elementsFrom, fresh}
+use Rattle.walk.specs.Walk.{Found, elementsFrom}
 use Rattle.walk.specs.Shows.{Streams, TagShows, MemberShows, Shows}
 use Rattle.walk.specs.Whole.{Accepted}
 use Rattle.walk.proofs.claim.Listed.{walk-shows}
@@ -47,7 +45,7 @@ use Rattle.walk_slots.proofs.laws.Back.{ended-put}
 use Rattle.walk_calls.specs.Steps.{Put, foundBy, walkOver, walkIn}
 use Rattle.walk_calls.specs.Chain.{Answer, HandsAll}
 use Rattle.walk_calls.proofs.laws.Chain.{chain-hands}
-use Rattle.nuorpyts.specs.Chains.{Accepted-in, WalkChain, TagChain, RefChain, MemberChain, SubChains, ListsIn, WholeIn}
+use Rattle.nuorpyts.specs.Chains.{Accepted-in, WalkChain, SubChains, ListsIn, WholeIn}
 use Rattle.nuorpyts.proofs.laws.Scanned.{scan-read, as-scanned}
 
 -- over a record that is read

@@ -13,7 +13,6 @@ use Rattle.wire.specs.declared.record.WireBlock.{WireBlock}
 use Rattle.block.specs.Content.{content}
 use Rattle.walk.specs.Whole.{Accepted}
 use Rattle.same.specs.declared.compared.Compared.{Compared}
-use Rattle.same.specs.declared.compared.Compared.the-variants as compared
 use Rattle.same.specs.Compared.{comparedOf, Told}
 use Rattle.same.specs.Compared as driver
 use Rattle.same.specs.Listing.{sameListing}
