@@ -1,5 +1,6 @@
 -- One file of laws for each subject.
 pub mod Calls
+pub mod Short
 pub mod Slots
 pub mod References
 pub mod Tags

@@ -1,7 +1,7 @@
--- What the loop of a call promises, over any state and any item: one item more, and as many as there is room for.
-use Prim.Native.Nat.{ℕ, zero, suc}
+-- What the loop of a call promises, over any state and any item: one item more, a run of them, and as many as there is room for.
+use Prim.Native.Nat.{ℕ, zero, suc, _*_, _≤_}
 use mathlib.Core.Path.{_≡_}
-use mathlib.Core.List.{List, _∷_, map}
+use mathlib.Core.List.{List, [], _∷_, map}
 use lib.ListN.{length}
 use Rattle.protobuf.specs.Stream.{end, more}
 use Rattle.protobuf.specs.Column.{Column}
@@ -15,6 +15,11 @@ StopsBy over told (suc n) w code count next = (code ≡ 0) × ((count ≡ suc n)
 
 pub record StopsAt {W : Type 0} (over : W) (told n : ℕ) (w : W) (code count : ℕ) (next : W) : Type 0 where
   pub by : StopsBy over told n w code count next
+
+-- items before a stream
+unfoldable pub before : {A : Type 0} → List A → Column A → Column A
+before [] c = c
+before (x ∷ xs) c = more x (before xs c)
 
 -- What is put in the answer's slice need not be settled by the item alone: y in B is what a program puts for the item g y, and f gives the numbers
 -- of it. Of references, tags and members it is the item itself.
@@ -33,6 +38,21 @@ module _ {W A B : Type 0} (g : B → A) (f : B → List ℕ) (ahead : W → Colu
 
   pub record ItemPutBy (w : W) (out : List ℕ) (at : ℕ) (code : ℕ) (next : W) (after : List ℕ) : Type 0 where
     pub by : PutBy w out at (ahead w) code next after
+
+  -- out is out₀ with n items of those that c₀ begins with; the state w has the others ahead
+  pub record FillingBy (size : ℕ) (c₀ : Column A) (out₀ : List ℕ) (most n : ℕ) (w : W) (out : List ℕ) : Type 0 where
+    pub items : List B
+    pub many : length items ≡ n
+    pub within : n ≤ most
+    pub room : size * most ≤ length out₀
+    pub so : c₀ ≡ before (map g items) (ahead w)
+    pub long : length out ≡ length out₀
+    pub is : out ≡ itemsPut size f out₀ 0 items
+
+  -- a run of items behind the first n: what a loop has kept up to there it keeps up to the m that there are now
+  pub record RunBy (size most n : ℕ) (w : W) (out : List ℕ) (m : ℕ) (next : W) (after : List ℕ) : Type 0 where
+    pub onward : n ≤ m
+    pub keeps : (c₀ : Column A) (out₀ : List ℕ) → FillingBy size c₀ out₀ most n w out → FillingBy size c₀ out₀ most m next after
 
   module _ (size : ℕ) (over : W) (out : List ℕ) where
     -- items from the slice's start on
@@ -60,6 +80,12 @@ module _ {W A B : Type 0} (g : B → A) (f : B → List ℕ) (ahead : W → Colu
 module _ {W A : Type 0} (f : A → List ℕ) (ahead : W → Column A) where
   abbrev pub ItemPut : W → List ℕ → ℕ → ℕ → W → List ℕ → Type 0
   ItemPut = ItemPutBy (λ (x : A). x) f ahead
+
+  abbrev pub Filling : ℕ → Column A → List ℕ → ℕ → ℕ → W → List ℕ → Type 0
+  Filling = FillingBy (λ (x : A). x) f ahead
+
+  abbrev pub Run : ℕ → ℕ → ℕ → W → List ℕ → ℕ → W → List ℕ → Type 0
+  Run = RunBy (λ (x : A). x) f ahead
 
   abbrev pub Filled : ℕ → W → List ℕ → Answer A → ℕ → ℕ → W → List ℕ → Type 0
   Filled = FilledBy (λ (x : A). x) f ahead

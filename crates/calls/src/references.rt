@@ -5,7 +5,7 @@ ghost use lib.ListN.{length};
 ghost use Rattle.answers.specs.Words.{filled};
 ghost use Rattle.elements.specs.References.{refsFrom};
 ghost use Rattle.calls.specs.Calls.{answered, oneRoom, roomFor, callCode, itemsOf, itemsPut, countAfter, SlotLeft};
-ghost use Rattle.calls.specs.Filling.{StopsAt, ItemPut, Filled, Called};
+ghost use Rattle.calls.specs.Filling.{StopsAt, ItemPut, Run, Filled, Called};
 ghost use Rattle.calls.specs.References.{refWords, refsAt, refItem, refsCall};
 use crate::room::Counted;
 use crate::room::one_room;
@@ -21,12 +21,21 @@ use elements::references::WayRefIter;
 use elements::references::WayRefStep;
 use numbers::little::read_u64;
 use numbers::signed::bits_i64;
+use numbers::signed::wrapping_add_i64;
+use numbers::signed::zigzag_i64;
 use protobuf::column::Column;
+use protobuf::column::wide_value;
 use protobuf::refusal::number;
 
 // A reference that was put, with the state behind it; or the code of the end, with the state before it.
 struct RefPut {
     code: u32,
+    next: WayRefIter,
+}
+
+// How many there are behind a run, and the state behind them.
+struct RefsRun {
+    count: usize,
     next: WayRefIter,
 }
 
@@ -92,6 +101,41 @@ fn put_ref(buffer: &[u8], state: WayRefIter, out: &mut [u8], at: usize) -> RefPu
     }
 }
 
+// References by a short way, from number `first` on, up to one that it does not serve. The reader's place and sum are numbers of the loop:
+// a state would pass through memory for each reference.
+fn short_refs(buffer: &[u8], from: WayRefIter, out: &mut [u8], first: usize, most: usize) -> RefsRun
+    requires { ⌜ 8 * most ≤ length (now out) ⌝ }
+    ensures { λ r. ⌜ Run refItem (refsFrom (now (buffer .entry))) 8 most first from (now (out .entry)) (r .count) (r .next) (now (out .exit)) ⌝ }
+{
+    let WayRefIter::Refs(c) = from else {
+        return RefsRun {
+            count: first,
+            next: from,
+        };
+    };
+    let end = c.column.end;
+    let mut at = c.column.at;
+    let mut sum = c.sum;
+    let mut count = first;
+    while count < most {
+        let word = wide_value(buffer, at, end);
+        if word == 0 {
+            break;
+        }
+        at += (word % 16) as usize;
+        sum = wrapping_add_i64(sum, zigzag_i64(word / 16));
+        put_at(out, 8 * count, &[bits_i64(sum)]);
+        count += 1;
+    }
+    RefsRun {
+        count,
+        next: WayRefIter::Refs(Sum64 {
+            column: Column { at, end },
+            sum,
+        }),
+    }
+}
+
 // What stands behind `count` references: where there are none, the end's code and the ended state.
 fn refs_behind(code: u32, count: usize, state: WayRefIter) -> RefsFilled
     ensures { λ r. ⌜ StopsAt WayRefIter.Ended code count state (r .code) (r .count) (r .next) ⌝ }
@@ -118,12 +162,17 @@ fn fill_refs(buffer: &[u8], start: WayRefIter, out: &mut [u8], most: usize) -> R
     let mut state = start;
     let mut count = 0;
     while count < most {
-        let r = put_ref(buffer, state, out, 8 * count);
+        let run = short_refs(buffer, state, out, count, most);
+        let next = run.next;
+        if run.count == most {
+            return refs_behind(OUTSIDE, run.count, next);
+        }
+        let r = put_ref(buffer, next, out, 8 * run.count);
         if r.code != 0 {
-            return refs_behind(r.code, count, state);
+            return refs_behind(r.code, run.count, next);
         }
         state = r.next;
-        count += 1;
+        count = run.count + 1;
     }
     refs_behind(OUTSIDE, count, state)
 }

@@ -17,13 +17,10 @@ use Rattle.protobuf.specs.Column.{ColumnEnd, ended, cut, Column}
 use Rattle.answers.specs.Words.{words, filled, filledAt}
 use Rattle.answers.proofs.laws.Words.{words-length}
 use Rattle.calls.specs.Calls.{first, past, Answer, gives, tells, answered, Call, asks, callBy, endCode, itemsOf, itemsPut, countAfter}
-use Rattle.calls.specs.Filling.{StopsBy, StopsAt, ItemIn, PutBy, ItemPutBy, ItemsIn, FilledBy, CalledBy}
+use Rattle.calls.specs.Filling.{StopsBy, StopsAt, before, ItemIn, PutBy, ItemPutBy, RunBy, ItemsIn, FilledBy, CalledBy}
+pub use Rattle.calls.specs.Filling.{FillingBy}
 
 -- ---- items before a stream
-
-unfoldable pub before : {A : Type 0} → List A → Column A → Column A
-before [] c = c
-before (x ∷ xs) c = more x (before xs c)
 
 module _ {A : Type 0} where
   before-more : (xs : List A) (x : A) (c : Column A) → before xs (more x c) ≡ before (xs ++ (x ∷ [])) c
@@ -87,19 +84,6 @@ module _ {A : Type 0} where
 pub code-told : (e : ColumnEnd) → endCode e ≡ 0 → ⊥
 code-told ended h = omega arith
 code-told (cut r) h = never-zero r h
-
--- out is out₀ with n items of those that c₀ begins with; the state w has the others ahead
-pub record FillingBy {W A B : Type 0} (g : B → A) (f : B → List ℕ) (ahead : W → Column A) (size : ℕ) (c₀ : Column A) (out₀ : List ℕ) (most n : ℕ) (w : W) (out : List ℕ) : Type 0 where
-  pub items : List B
-  pub many : length items ≡ n
-  pub within : n ≤ most
-  pub room : size * most ≤ length out₀
-  pub so : c₀ ≡ before (map g items) (ahead w)
-  pub long : length out ≡ length out₀
-  pub is : out ≡ itemsPut size f out₀ 0 items
-
-abbrev pub Filling : {W A : Type 0} → (A → List ℕ) → (W → Column A) → ℕ → Column A → List ℕ → ℕ → ℕ → W → List ℕ → Type 0
-Filling {A = A} = FillingBy (λ (x : A). x)
 
 map-more : {A B : Type 0} (g : B → A) (ys : List B) (y : B) → map g (ys ++ (y ∷ [])) ≡ map g ys ++ (g y ∷ [])
 map-more g [] y = refl
@@ -192,6 +176,19 @@ module _ {W A B : Type 0} {g : B → A} (f : B → List ℕ) (ahead : W → Colu
 
       pub fill-full : most ≤ n → StopsAt over 14 n w code count next → FilledBy g f ahead size over out₀ (answered most c₀) code count next out
       fill-full h q = full-by (p .items) (p .many) (omega (arith, p .within)) (p .so) (p .is) q
+
+-- ---- a run of items
+
+module _ {W A B : Type 0} {g : B → A} (f : B → List ℕ) (ahead : W → Column A) (size : ℕ) {most n : ℕ} {w : W} {out : List ℕ} where
+  pub run-begins : RunBy g f ahead size most n w out n w out
+  run-begins = record { onward = omega arith; keeps = λ c₀ out₀ p. p }
+
+  pub run-from : {v next : W} {m : ℕ} {after : List ℕ} → w ≡ v → RunBy g f ahead size most n v out m next after → RunBy g f ahead size most n w out m next after
+  run-from {next = next} {m} {after} e r = subst (λ (x : W). RunBy g f ahead size most n x out m next after) (sym e) r
+
+  pub run-on : {m : ℕ} {v next : W} {mid after : List ℕ} → RunBy g f ahead size most n w out m v mid → ((y : B) → 8 * length (f y) ≤ size) → m < most → ItemPutBy g f ahead v mid (size * m) 0 next after
+      → RunBy g f ahead size most n w out (m + 1) next after
+  run-on r small h put = record { onward = omega (arith, r .onward); keeps = λ c₀ out₀ p. fill-on f ahead size (r .keeps c₀ out₀ p) small h put refl }
 
 pub stops-now : {W : Type 0} (over : W) (told : ℕ) (w : W) {n : ℕ} → n ≡ 0 → StopsAt over told n w told 0 over
 stops-now over told w e = subst (λ (m : ℕ). StopsAt over told m w told 0 over) (sym e) (record { by = (refl, (refl, refl)) })

@@ -4,8 +4,9 @@ use Prim.Native.Nat.{_-_}
 use native.Mathlib.Omega.{arith}
 use Rattle.elements.specs.Members.{membersFrom}
 use Rattle.elements.specs.declared.members.RelMemberIter.the-variants as iter
+use Rattle.calls.specs.Filling.{Filling}
 use Rattle.calls.specs.Members.{memberItem}
-use Rattle.calls.proofs.laws.Calls.{Filling, fill-begins, fill-on, fill-ends, fill-full, item-room}
+use Rattle.calls.proofs.laws.Calls.{fill-begins, fill-on, fill-ends, fill-full, item-room}
 use Rattle.calls.proofs.laws.Members.{item-size}
 use Rattle.calls.proofs.members.fill_members.Statement.{statement}
 use Rattle.calls.proofs.members.fill_members.Tie as tie

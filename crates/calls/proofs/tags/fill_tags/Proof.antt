@@ -5,8 +5,9 @@ use native.Mathlib.Omega.{arith}
 use lib.Dec.{lit≤}
 use Rattle.elements.specs.Tags.{tagsFrom}
 use Rattle.elements.specs.declared.tags.TagIter.the-variants as iter
+use Rattle.calls.specs.Filling.{Filling}
 use Rattle.calls.specs.Tags.{tagItem}
-use Rattle.calls.proofs.laws.Calls.{Filling, fill-begins, fill-on, fill-ends, fill-full, item-room}
+use Rattle.calls.proofs.laws.Calls.{fill-begins, fill-on, fill-ends, fill-full, item-room}
 use Rattle.calls.proofs.tags.fill_tags.Statement.{statement}
 use Rattle.calls.proofs.tags.fill_tags.Tie as tie
 

@@ -1,0 +1,44 @@
+-- Laws of the short ways: a word that is not 0 tells the next value of a column, whose reader is inside the bytes before it and behind it.
+use Prim.Native.Nat.{ℕ, _+_, _/_, _%_, _≤_, _<_}
+use native.Mathlib.Omega.{arith}
+use mathlib.Core.Path.{_≡_, refl, sym, ap}
+use mathlib.Core.List.{List}
+use mathlib.Core.Bool.{Bool, true, false}
+use lib.Dec.{leb}
+use lib.ListN.{length, take}
+use lib.Seq.{length-take-le}
+use borrow.Author.Tests.{leb-true, le-leb}
+use Rattle.numbers.specs.Choose.{choose}
+use Rattle.protobuf.specs.declared.refusal.Refusal.the-variants.{Outside}
+use Rattle.protobuf.specs.declared.column.Column.{Column}
+use Rattle.protobuf.specs.Answers.{stepBy}
+use Rattle.protobuf.specs.Stream.{last, item}
+use Rattle.protobuf.specs.Column.{cut, valueAt, stepAt}
+use Rattle.protobuf.specs.Short.{Short}
+use Rattle.protobuf.proofs.laws.Column.{values-forward}
+use Rattle.columns.specs.declared.told.Told.the-variants as told
+use Rattle.columns.specs.InStep.{ahead}
+use Rattle.columns.specs.Inside.{columnInside}
+use Rattle.columns.proofs.laws.InStep.{stepped}
+use Rattle.columns.proofs.laws.Inside.{also-true}
+use Rattle.columns.proofs.laws.Zip.{Tells}
+
+-- the reader behind a word's value
+abbrev pub behindWord : Column → ℕ → Column
+behindWord c word = record { at = c .at + word % 16; end = c .end }
+
+-- where a value was found, by the tests of its reader
+found-by : (s : List ℕ) (p e : ℕ) (a b : Bool) {v q : ℕ} → (b ≡ true → e ≤ length s) → choose a (choose b (valueAt (take e s) p) (last (cut Outside))) (last (cut Outside)) ≡ item v q → (p < q) × ((q ≤ e) × (e ≤ length s))
+found-by s p e false b g h = absurd (let z : _≡_ {A = ℕ} 0 1 = cc in omega arith)
+found-by s p e true false g h = absurd (let z : _≡_ {A = ℕ} 0 1 = cc in omega arith)
+found-by s p e true true {v} {q} g h =
+    let on = values-forward (take e s) .moves p q v h in
+    (on .0, (omega (arith, on, length-take-le e s (g refl)), g refl))
+
+module _ (s : List ℕ) (c : Column) {word : ℕ} (some : word ≡ 0 → ⊥) (h : Short (stepAt s (c .at) (c .end)) (c .at) word) where
+  pub word-tells : Tells told.Value (word / 16) (ahead s (behindWord c word)) (ahead s c)
+  word-tells = record { so = sym (stepped s c refl (ap (stepBy (c .end)) (h .says some))) }
+
+  pub word-within : (c .at < c .at + word % 16) × ((c .at + word % 16 ≤ c .end) × (c .end ≤ length s))
+  unfolding stepAt
+  word-within = found-by s (c .at) (c .end) (leb (c .at) (c .end)) (leb (c .end) (length s)) (leb-true _ _) (h .says some)
