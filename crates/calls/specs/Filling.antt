@@ -2,6 +2,7 @@
 use Prim.Native.Nat.{ℕ, zero, suc, _*_, _≤_}
 use mathlib.Core.Path.{_≡_}
 use mathlib.Core.List.{List, [], _∷_, map}
+use mathlib.Core.Bool.{Bool, true, false}
 use lib.ListN.{length}
 use Rattle.protobuf.specs.Stream.{end, more}
 use Rattle.protobuf.specs.Column.{Column}
@@ -76,6 +77,14 @@ module _ {W A B : Type 0} (g : B → A) (f : B → List ℕ) (ahead : W → Colu
       pub leaves-slot : SlotLeft stateAt stateWords over ahead slot call left
       pub puts : ItemsIn (itemsOf call) after
 
+    -- a short way of a call: where it serves, the call has code 0 and one item; else nothing is written
+    abbrev pub ServedWith : Bool → (List ℕ → W) → (W → List ℕ) → List ℕ → Call A → List ℕ → List ℕ → Type 0
+    ServedWith true stateAt stateWords slot call left after = CalledBy stateAt stateWords slot call 0 1 left after
+    ServedWith false stateAt stateWords slot call left after = (left ≡ slot) × (after ≡ out)
+
+    pub record ServedBy (stateAt : List ℕ → W) (stateWords : W → List ℕ) (slot : List ℕ) (call : Call A) (served : Bool) (left after : List ℕ) : Type 0 where
+      pub by : ServedWith served stateAt stateWords slot call left after
+
 -- where what is put is the item itself
 module _ {W A : Type 0} (f : A → List ℕ) (ahead : W → Column A) where
   abbrev pub ItemPut : W → List ℕ → ℕ → ℕ → W → List ℕ → Type 0
@@ -92,3 +101,6 @@ module _ {W A : Type 0} (f : A → List ℕ) (ahead : W → Column A) where
 
   abbrev pub Called : ℕ → W → List ℕ → (List ℕ → W) → (W → List ℕ) → List ℕ → Call A → ℕ → ℕ → List ℕ → List ℕ → Type 0
   Called = CalledBy (λ (x : A). x) f ahead
+
+  abbrev pub Served : ℕ → W → List ℕ → (List ℕ → W) → (W → List ℕ) → List ℕ → Call A → Bool → List ℕ → List ℕ → Type 0
+  Served = ServedBy (λ (x : A). x) f ahead

@@ -5,7 +5,7 @@ ghost use lib.ListN.{length};
 ghost use Rattle.answers.specs.Words.{filled};
 ghost use Rattle.elements.specs.References.{refsFrom};
 ghost use Rattle.calls.specs.Calls.{answered, oneRoom, roomFor, callCode, itemsOf, itemsPut, countAfter, SlotLeft};
-ghost use Rattle.calls.specs.Filling.{StopsAt, ItemPut, Run, Filled, Called};
+ghost use Rattle.calls.specs.Filling.{StopsAt, ItemPut, Run, Filled, Called, Served};
 ghost use Rattle.calls.specs.References.{refWords, refsAt, refItem, refsCall};
 use crate::room::Counted;
 use crate::room::one_room;
@@ -21,6 +21,7 @@ use elements::references::WayRefIter;
 use elements::references::WayRefStep;
 use numbers::little::read_u64;
 use numbers::signed::bits_i64;
+use numbers::signed::int64;
 use numbers::signed::wrapping_add_i64;
 use numbers::signed::zigzag_i64;
 use protobuf::column::Column;
@@ -206,6 +207,34 @@ fn refs_into(buffer: &[u8], slot: &mut [u8], out: &mut [u8], most: usize) -> Cou
     }
 }
 
+// The next reference by a short way over the slot itself. Where it serves, the reference is put and the slot holds the state behind it; else
+// nothing is written, and the call is made by the state.
+fn put_short_ref(buffer: &[u8], slot: &mut [u8], out: &mut [u8]) -> bool
+    ensures { λ r. ⌜ Served refItem (refsFrom (now (buffer .entry))) 8 WayRefIter.Ended (now (out .entry)) refsAt refWords (now (slot .entry)) (refsCall (now (buffer .entry)) (now (slot .entry)) (oneRoom 8 (now (out .entry)))) r (now (slot .exit)) (now (out .exit)) ⌝ }
+{
+    if slot.len() < 32 {
+        return false;
+    }
+    if out.len() < 8 {
+        return false;
+    }
+    if read_u64(slot, 0) != 1 {
+        return false;
+    }
+    let at = read_u64(slot, 8) as usize;
+    let end = read_u64(slot, 16) as usize;
+    let word = wide_value(buffer, at, end);
+    if word == 0 {
+        return false;
+    }
+    let next = at + (word % 16) as usize;
+    let sum = wrapping_add_i64(int64(read_u64(slot, 24)), zigzag_i64(word / 16));
+    let bits = bits_i64(sum);
+    put_numbers(out, &[bits]);
+    put_numbers(slot, &[1, next as u64, end as u64, bits]);
+    true
+}
+
 // The next reference, with the state behind it: 14 where the slot is too short for a state, and 101 where it holds the ended one; both
 // leave it as it is. Else 14 where `out` is too short for one, then what the step refuses, and 101 where there are no more: the slot then
 // holds the ended state, and `out` is as it was.
@@ -214,6 +243,9 @@ pub fn next_ref(buffer: &[u8], slot: &mut [u8], out: &mut [u8]) -> u32
     ensures next { λ r. ⌜ SlotLeft refsAt refWords WayRefIter.Ended (refsFrom (now (buffer .entry))) (now (slot .entry)) (refsCall (now (buffer .entry)) (now (slot .entry)) (oneRoom 8 (now (out .entry)))) (now (slot .exit)) ⌝ }
     ensures after { λ r. ⌜ now (out .exit) ≡ itemsPut 8 refItem (now (out .entry)) 0 (itemsOf (refsCall (now (buffer .entry)) (now (slot .entry)) (oneRoom 8 (now (out .entry))))) ⌝ }
 {
+    if put_short_ref(buffer, slot, out) {
+        return 0;
+    }
     let most = one_room(out, 8);
     let r = refs_into(buffer, slot, out, most);
     r.code

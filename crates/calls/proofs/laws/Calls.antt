@@ -17,7 +17,7 @@ use Rattle.protobuf.specs.Column.{ColumnEnd, ended, cut, Column}
 use Rattle.answers.specs.Words.{words, filled, filledAt}
 use Rattle.answers.proofs.laws.Words.{words-length}
 use Rattle.calls.specs.Calls.{first, past, Answer, gives, tells, answered, Call, asks, callBy, endCode, itemsOf, itemsPut, countAfter}
-use Rattle.calls.specs.Filling.{StopsBy, StopsAt, before, ItemIn, PutBy, ItemPutBy, RunBy, ItemsIn, FilledBy, CalledBy}
+use Rattle.calls.specs.Filling.{StopsBy, StopsAt, before, ItemIn, PutBy, ItemPutBy, RunBy, ItemsIn, FilledBy, CalledBy, ServedWith, ServedBy}
 pub use Rattle.calls.specs.Filling.{FillingBy}
 
 -- ---- items before a stream
@@ -208,6 +208,13 @@ module _ {W A B : Type 0} {g : B → A} (f : B → List ℕ) (ahead : W → Colu
   puts-nothing e {code} h k =
       record { by = subst (λ (d : Column A). PutBy g f ahead w out at d code w out) h (k, (refl, refl)) }
 
+-- ---- a call for one item, by that item
+
+pub one-filled : {W A B : Type 0} {g : B → A} (f : B → List ℕ) (ahead : W → Column A) (size : ℕ) (over w : W) {next : W} {out after : List ℕ} → ((y : B) → 8 * length (f y) ≤ size) → size ≤ length out → ItemPutBy g f ahead w out (size * 0) 0 next after
+    → FilledBy g f ahead size over out (answered 1 (ahead w)) 0 1 next after
+one-filled f ahead size over w {next} small room put =
+    fill-full f ahead size (fill-on f ahead size (fill-begins f ahead size w 1 (omega arith)) small (omega arith) put refl) over (omega arith) (stops-later over 14 next 1 (λ z. omega arith))
+
 -- ---- by the slot
 
 module _ {W A B : Type 0} (g : B → A) (f : B → List ℕ) (ahead : W → Column A) (size : ℕ) (over : W) (stateAt : List ℕ → W) (stateWords : W → List ℕ) (isOver : W → Bool) (width : ℕ) (out slot : List ℕ) (room : ℕ) where
@@ -260,6 +267,23 @@ module _ {W A B : Type 0} (g : B → A) (f : B → List ℕ) (ahead : W → Colu
       pub call-asks : isOver w ≡ false → FilledBy g f ahead size over out (answered room (ahead w)) code count next after → CalledOn code count left after
       call-asks e q =
           by-tests e (asked (answered room (ahead (stateAt slot))) (subst (λ (v : W). FilledBy g f ahead size over out (answered room (ahead v)) code count next after) there q))
+
+-- ---- a short way of a call, by whether it serves
+
+module _ {W A B : Type 0} {g : B → A} {f : B → List ℕ} {ahead : W → Column A} {size : ℕ} {over : W} {out : List ℕ} {stateAt : List ℕ → W} {stateWords : W → List ℕ} {slot : List ℕ} {call : Call A} where
+  pub served : {yes : Bool} {left after : List ℕ} → ServedBy g f ahead size over out stateAt stateWords slot call yes left after → yes ≡ true → CalledBy g f ahead size over out stateAt stateWords slot call 0 1 left after
+  served {left = left} {after} p e = subst (λ (b : Bool). ServedWith g f ahead size over out b stateAt stateWords slot call left after) e (p .by)
+
+  pub not-served : {yes : Bool} {left after : List ℕ} → ServedBy g f ahead size over out stateAt stateWords slot call yes left after → yes ≡ false → (left ≡ slot) × (after ≡ out)
+  not-served {left = left} {after} p e = subst (λ (b : Bool). ServedWith g f ahead size over out b stateAt stateWords slot call left after) e (p .by)
+
+-- a call behind one that wrote nothing
+pub unwritten : {W A B : Type 0} {g : B → A} {f : B → List ℕ} {ahead : W → Column A} {size : ℕ} {over : W} {stateAt : List ℕ → W} {stateWords : W → List ℕ} (call : List ℕ → List ℕ → Call A)
+    {slot slot₀ out out₀ : List ℕ} {code count : ℕ} {left after : List ℕ} → slot ≡ slot₀ → out ≡ out₀ → CalledBy g f ahead size over out stateAt stateWords slot (call slot out) code count left after
+    → CalledBy g f ahead size over out₀ stateAt stateWords slot₀ (call slot₀ out₀) code count left after
+unwritten {g = g} {f} {ahead} {size} {over} {stateAt} {stateWords} call {slot} {out₀ = out₀} {code = code} {count} {left} {after} e k p =
+    subst (λ (s : List ℕ). CalledBy g f ahead size over out₀ stateAt stateWords s (call s out₀) code count left after) e
+    (subst (λ (o : List ℕ). CalledBy g f ahead size over o stateAt stateWords slot (call slot o) code count left after) k p)
 
 -- ---- the slice for the count, and the room
 
