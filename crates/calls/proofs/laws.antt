@@ -4,6 +4,7 @@ pub mod Short
 pub mod Slots
 pub mod References
 pub mod Tags
+pub mod ShortTags
 pub mod Members
 pub mod Starts
 pub mod Elements

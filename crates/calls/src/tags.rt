@@ -1,12 +1,14 @@
 // The tags of an element with their texts, called through C over the record of a scanned block; and the state of both kinds of tags.
+ghost use mathlib.Core.Bool.{true};
 ghost use mathlib.Core.Path.{_≡_};
-ghost use Prim.Native.Nat.{_*_, _≤_};
+ghost use Prim.Native.Nat.{_+_, _*_, _≤_};
 ghost use lib.ListN.{length};
+ghost use Rattle.lookup.specs.Lookup.{isRecordInside};
 ghost use Rattle.answers.specs.Words.{filled};
 ghost use Rattle.elements.specs.Tags.{tagsFrom};
 ghost use Rattle.calls.specs.Calls.{answered, oneRoom, roomFor, callCode, itemsOf, itemsPut, countAfter, SlotLeft};
-ghost use Rattle.calls.specs.Filling.{StopsAt, ItemPut, Filled, Called};
-ghost use Rattle.calls.specs.Tags.{tagWords, tagsAt, tagItem, tagsIn, tagsCall};
+ghost use Rattle.calls.specs.Filling.{StopsAt, ItemPut, Run, Filled, Called};
+ghost use Rattle.calls.specs.Tags.{tagWords, tagsAt, tagItem, TextsBy, tagsIn, tagsCall};
 use crate::room::Counted;
 use crate::room::one_room;
 use crate::room::put_count;
@@ -21,8 +23,12 @@ use answers::words::put_numbers;
 use columns::zip::TagColumns;
 use elements::tags::TagIter;
 use elements::tags::TagIterStep;
+use fields::part::part_fits;
+use lookup::by_number::is_inside;
+use numbers::little::read_u32;
 use numbers::little::read_u64;
 use protobuf::column::Column;
+use protobuf::column::wide_value;
 use protobuf::refusal::number;
 use wire::record::WireBlock;
 
@@ -30,6 +36,12 @@ use wire::record::WireBlock;
 pub(crate) struct TagPut {
     pub code: u32,
     pub next: TagIter,
+}
+
+// How many there are behind a run, and the state behind them.
+struct TagsRun {
+    count: usize,
+    next: TagIter,
 }
 
 // How many were put, with the state behind them; where none was, the code and the ended state.
@@ -119,6 +131,178 @@ fn put_tag(buffer: &[u8], block: WireBlock, state: TagIter, out: &mut [u8], at: 
     }
 }
 
+// Puts a tag by its two numbers, where both have a text inside the buffer: by where the string table stands and how many strings it has. Else
+// nothing is written.
+fn put_texts(
+    buffer: &[u8],
+    table: usize,
+    strings: usize,
+    key: usize,
+    value: usize,
+    out: &mut [u8],
+    at: usize,
+) -> bool
+    requires { ⌜ table + 8 * strings ≤ length (now buffer) ⌝ }
+    ensures { λ r. ⌜ TextsBy (now (buffer .entry)) table strings key value (now (out .entry)) at r (now (out .exit)) ⌝ }
+{
+    if strings <= key {
+        return false;
+    }
+    if strings <= value {
+        return false;
+    }
+    let n = buffer.len();
+    let k = table + 8 * key;
+    let v = table + 8 * value;
+    let key_start = read_u32(buffer, k) as usize;
+    let key_len = read_u32(buffer, k + 4) as usize;
+    let value_start = read_u32(buffer, v) as usize;
+    let value_len = read_u32(buffer, v + 4) as usize;
+    if !part_fits(n, key_start, key_len) {
+        return false;
+    }
+    if !part_fits(n, value_start, value_len) {
+        return false;
+    }
+    put_at(
+        out,
+        at,
+        &[
+            key as u64,
+            value as u64,
+            key_start as u64,
+            key_len as u64,
+            value_start as u64,
+            value_len as u64,
+        ],
+    );
+    true
+}
+
+// Tags of keys and vals by a short way, from number `first` on, up to one that it does not serve.
+fn short_columns(
+    buffer: &[u8],
+    block: WireBlock,
+    from: TagColumns,
+    out: &mut [u8],
+    first: usize,
+    most: usize,
+) -> TagsRun
+    requires { ⌜ 48 * most ≤ length (now out) ⌝ }
+    requires { ⌜ isRecordInside (now buffer) block ≡ true ⌝ }
+    ensures { λ r. ⌜ Run tagItem (tagsFrom (now (buffer .entry)) block) 48 most first (TagIter.Columns from) (now (out .entry)) (r .count) (r .next) (now (out .exit)) ⌝ }
+{
+    let mut keys = from.keys;
+    let mut vals = from.vals;
+    let mut count = first;
+    while count < most {
+        let k = wide_value(buffer, keys.at, keys.end);
+        let v = wide_value(buffer, vals.at, vals.end);
+        if k == 0 {
+            break;
+        }
+        if v == 0 {
+            break;
+        }
+        let key = (k / 16 % 0x1_0000_0000) as usize;
+        let value = (v / 16 % 0x1_0000_0000) as usize;
+        if !put_texts(
+            buffer,
+            block.stringtable,
+            block.strings,
+            key,
+            value,
+            out,
+            48 * count,
+        ) {
+            break;
+        }
+        keys.at += (k % 16) as usize;
+        vals.at += (v % 16) as usize;
+        count += 1;
+    }
+    TagsRun {
+        count,
+        next: TagIter::Columns(TagColumns { keys, vals }),
+    }
+}
+
+// Tags of a dense node by a short way: a key 0, which ends them, is a word below 16, as one that tells nothing is.
+fn short_pairs(
+    buffer: &[u8],
+    block: WireBlock,
+    from: Column,
+    out: &mut [u8],
+    first: usize,
+    most: usize,
+) -> TagsRun
+    requires { ⌜ 48 * most ≤ length (now out) ⌝ }
+    requires { ⌜ isRecordInside (now buffer) block ≡ true ⌝ }
+    ensures { λ r. ⌜ Run tagItem (tagsFrom (now (buffer .entry)) block) 48 most first (TagIter.KeysVals from) (now (out .entry)) (r .count) (r .next) (now (out .exit)) ⌝ }
+{
+    let end = from.end;
+    let mut at = from.at;
+    let mut count = first;
+    while count < most {
+        let k = wide_value(buffer, at, end);
+        if k < 16 {
+            break;
+        }
+        let middle = at + (k % 16) as usize;
+        let v = wide_value(buffer, middle, end);
+        if v == 0 {
+            break;
+        }
+        let key = (k / 16) as usize;
+        let value = (v / 16) as usize;
+        if !put_texts(
+            buffer,
+            block.stringtable,
+            block.strings,
+            key,
+            value,
+            out,
+            48 * count,
+        ) {
+            break;
+        }
+        at = middle + (v % 16) as usize;
+        count += 1;
+    }
+    TagsRun {
+        count,
+        next: TagIter::KeysVals(Column { at, end }),
+    }
+}
+
+// Tags by a short way. The record is tested once for all of them; that a column is inside, each value's word tells.
+fn short_tags(
+    buffer: &[u8],
+    block: WireBlock,
+    from: TagIter,
+    out: &mut [u8],
+    first: usize,
+    most: usize,
+) -> TagsRun
+    requires { ⌜ 48 * most ≤ length (now out) ⌝ }
+    ensures { λ r. ⌜ Run tagItem (tagsFrom (now (buffer .entry)) block) 48 most first from (now (out .entry)) (r .count) (r .next) (now (out .exit)) ⌝ }
+{
+    if !is_inside(buffer, block) {
+        return TagsRun {
+            count: first,
+            next: from,
+        };
+    }
+    match from {
+        TagIter::Ended => TagsRun {
+            count: first,
+            next: from,
+        },
+        TagIter::Columns(c) => short_columns(buffer, block, c, out, first, most),
+        TagIter::KeysVals(c) => short_pairs(buffer, block, c, out, first, most),
+    }
+}
+
 // What stands behind `count` tags: where there are none, the end's code and the ended state.
 pub(crate) fn tags_behind(code: u32, count: usize, state: TagIter) -> TagsFilled
     ensures { λ r. ⌜ StopsAt TagIter.Ended code count state (r .code) (r .count) (r .next) ⌝ }
@@ -151,12 +335,17 @@ fn fill_tags(
     let mut state = start;
     let mut count = 0;
     while count < most {
-        let r = put_tag(buffer, block, state, out, 48 * count);
+        let run = short_tags(buffer, block, state, out, count, most);
+        let next = run.next;
+        if run.count == most {
+            return tags_behind(OUTSIDE, run.count, next);
+        }
+        let r = put_tag(buffer, block, next, out, 48 * run.count);
         if r.code != 0 {
-            return tags_behind(r.code, count, state);
+            return tags_behind(r.code, run.count, next);
         }
         state = r.next;
-        count += 1;
+        count = run.count + 1;
     }
     tags_behind(OUTSIDE, count, state)
 }

@@ -186,6 +186,9 @@ module _ {W A B : Type 0} {g : B → A} (f : B → List ℕ) (ahead : W → Colu
   pub run-from : {v next : W} {m : ℕ} {after : List ℕ} → w ≡ v → RunBy g f ahead size most n v out m next after → RunBy g f ahead size most n w out m next after
   run-from {next = next} {m} {after} e r = subst (λ (x : W). RunBy g f ahead size most n x out m next after) (sym e) r
 
+  pub run-same : {next : W} {m : ℕ} {mid after : List ℕ} → after ≡ mid → RunBy g f ahead size most n w out m next mid → RunBy g f ahead size most n w out m next after
+  run-same {next} {m} e r = subst (λ (l : List ℕ). RunBy g f ahead size most n w out m next l) (sym e) r
+
   pub run-on : {m : ℕ} {v next : W} {mid after : List ℕ} → RunBy g f ahead size most n w out m v mid → ((y : B) → 8 * length (f y) ≤ size) → m < most → ItemPutBy g f ahead v mid (size * m) 0 next after
       → RunBy g f ahead size most n w out (m + 1) next after
   run-on r small h put = record { onward = omega (arith, r .onward); keeps = λ c₀ out₀ p. fill-on f ahead size (r .keeps c₀ out₀ p) small h put refl }

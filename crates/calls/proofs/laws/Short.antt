@@ -42,3 +42,9 @@ module _ (s : List ℕ) (c : Column) {word : ℕ} (some : word ≡ 0 → ⊥) (h
   pub word-within : (c .at < c .at + word % 16) × ((c .at + word % 16 ≤ c .end) × (c .end ≤ length s))
   unfolding stepAt
   word-within = found-by s (c .at) (c .end) (leb (c .at) (c .end)) (leb (c .end) (length s)) (leb-true _ _) (h .says some)
+
+  pub word-stands : columnInside s c ≡ true
+  word-stands = also-true (le-leb (c .at) (c .end) (omega (arith, word-within))) (le-leb (c .end) (length s) (word-within .1 .1))
+
+  pub word-inside : columnInside s (behindWord c word) ≡ true
+  word-inside = also-true (le-leb (c .at + word % 16) (c .end) (word-within .1 .0)) (le-leb (c .end) (length s) (word-within .1 .1))

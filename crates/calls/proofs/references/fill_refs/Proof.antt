@@ -8,7 +8,7 @@ use Rattle.elements.specs.References.{refsFrom}
 use Rattle.elements.specs.declared.references.WayRefIter.the-variants as iter
 use Rattle.calls.specs.Filling.{Filling}
 use Rattle.calls.specs.References.{refItem}
-use Rattle.calls.proofs.laws.Calls.{fill-begins, fill-on, fill-ends, fill-full, item-room}
+use Rattle.calls.proofs.laws.Calls.{fill-begins, fill-on, fill-ends, fill-full}
 use Rattle.calls.proofs.references.fill_refs.Statement.{statement}
 use Rattle.calls.proofs.references.fill_refs.Tie as tie
 
