@@ -228,7 +228,8 @@ fn put_short_ref(buffer: &[u8], slot: &mut [u8], out: &mut [u8]) -> bool
         return false;
     }
     let next = at + (word % 16) as usize;
-    let sum = wrapping_add_i64(int64(read_u64(slot, 24)), zigzag_i64(word / 16));
+    let before = read_u64(slot, 24);
+    let sum = wrapping_add_i64(int64(before), zigzag_i64(word / 16));
     let bits = bits_i64(sum);
     put_numbers(out, &[bits]);
     put_numbers(slot, &[1, next as u64, end as u64, bits]);
