@@ -1,9 +1,7 @@
--- What a call through C answers and leaves, over any state and any item; then the states and items of each sub-walk.
+-- What a call through C answers and leaves, over any state and any item; then the states and items of references and members.
 pub mod Calls
 pub mod Filling
 pub mod Slots
 pub mod References
-pub mod Tags
 pub mod Members
-pub mod Starts
 pub mod Worked

@@ -1,4 +1,4 @@
--- Worked values: what the definitions here say of concrete states, slots and elements, with all fields different. They are proved by
+-- Worked values: what the definitions here say of concrete states and slots, with all fields different. They are proved by
 -- computing, so a definition that is changed breaks a row, whatever the code does. Bytes are hexadecimal.
 use Prim.Native.Nat.{ℕ, _-_, _^_}
 use mathlib.Core.Path.{_≡_, refl}
@@ -13,51 +13,36 @@ use Rattle.protobuf.specs.Stream.{end, more, unrolled, mapped}
 use Rattle.protobuf.specs.Column.{ended, cut, valueAt, columnFrom, sumsFrom}
 use Rattle.numbers.specs.Little.{little, bytes, numberAt}
 use Rattle.numbers.specs.Signed.{signed, twos, unzigzag, zigzag, residue, wrap}
-use Rattle.fields.specs.Part.{partBy, noPart}
-use Rattle.fields.specs.Outcome.{kept, refused}
-use Rattle.lookup.specs.Lookup.{getAt}
-use Rattle.columns.specs.InStep.{ahead, startOf}
+use Rattle.columns.specs.InStep.{ahead}
 use Rattle.columns.specs.Zip.{zip}
 use Rattle.elements.specs.declared.references.WayRefIter.{WayRefIter}
 use Rattle.elements.specs.declared.references.WayRefIter.the-variants as refs
-use Rattle.elements.specs.declared.tags.TagIter.{TagIter}
-use Rattle.elements.specs.declared.tags.TagIter.the-variants as tags
 use Rattle.elements.specs.declared.members.MemberId.the-variants as id
 use Rattle.elements.specs.declared.members.RelMemberIter.{RelMemberIter}
 use Rattle.elements.specs.declared.members.RelMemberIter.the-variants as members
-use Rattle.elements.specs.declared.element.NodeInfo.the-variants as info
-use Rattle.elements.specs.declared.element.Element.{Element}
-use Rattle.elements.specs.declared.element.Element.the-variants as element
-use Rattle.elements.specs.Tags.{pairBy, tagBy, pairsOf, foundTags, rawTagsFrom, tagsBy}
 use Rattle.elements.specs.References.{refsFrom}
 use Rattle.elements.specs.Members.{membersBy}
 use Rattle.answers.specs.Words.{words}
 use Rattle.answers.specs.Record.{recordIn}
-use Rattle.layouts.specs.Element.{elementWords}
 use Rattle.calls.specs.Calls.{first, past, gives, tells, answered, leaves, asks, callCode, itemsPut, countAfter, SlotLeft, oneRoom, roomFor}
 use Rattle.calls.specs.References.{refWords, refsAt, refItem, refsCall}
-use Rattle.calls.specs.Tags.{tagWords, tagsAt, rawTagItem, rawTagsCall, tagItem, tagsCall}
 use Rattle.calls.specs.Members.{memberWords, membersAt, memberItem, membersCall}
-use Rattle.calls.specs.Starts.{refsStartIn, tagsStartIn, membersStartIn}
 
 -- a slice of n bytes that nothing was written to
-abbrev blank : ℕ → List ℕ
+abbrev pub blank : ℕ → List ℕ
 blank n = replicate n 0xEE
 
 -- −1, which is 2^64 − 1 in two's complement, and so on
 abbrev minus : ℕ → ℕ
 minus n = 2 ^ 64 - n
 
-abbrev place : ℕ → ℕ → state.Column
+abbrev pub place : ℕ → ℕ → state.Column
 place at e = record { at = at; end = e }
 
-abbrev refsWith : ℕ → ℕ → ℤ → WayRefIter
+abbrev pub refsWith : ℕ → ℕ → ℤ → WayRefIter
 refsWith at e sum = refs.Refs (record { column = place at e; sum = sum })
 
-abbrev columnsBy : ℕ → ℕ → ℕ → ℕ → TagIter
-columnsBy key keyEnd val valEnd = tags.Columns (record { keys = place key keyEnd; vals = place val valEnd })
-
-abbrev membersWith : ℕ → ℕ → ℕ → ℕ → ℤ → ℕ → ℕ → RelMemberIter
+abbrev pub membersWith : ℕ → ℕ → ℕ → ℕ → ℤ → ℕ → ℕ → RelMemberIter
 membersWith role roleEnd memid memidEnd sum type typeEnd =
     members.Members (record { roles = place role roleEnd; memids = record { column = place memid memidEnd; sum = sum }; types = place type typeEnd })
 
@@ -69,13 +54,6 @@ pub record States : Type 0 where
   pub refs-back : refsAt (words (1 ∷ 5 ∷ 6 ∷ minus 7 ∷ []) ++ blank 1) ≡ refsWith 5 6 (negsuc 6)
   pub refs-ended-back : refsAt (words (0 ∷ 5 ∷ 6 ∷ 7 ∷ [])) ≡ refs.Ended
   pub refs-phase-two : refsAt (words (2 ∷ 5 ∷ 6 ∷ 7 ∷ [])) ≡ refsWith 1 0 (pos 0)
-  pub columns-words : tagWords (columnsBy 2 3 4 5) ≡ 1 ∷ 2 ∷ 3 ∷ 4 ∷ 5 ∷ []
-  pub dense-words : tagWords (tags.KeysVals (place 2 3)) ≡ 2 ∷ 2 ∷ 3 ∷ 0 ∷ 0 ∷ []
-  pub tags-ended-words : tagWords tags.Ended ≡ 0 ∷ 0 ∷ 0 ∷ 0 ∷ 0 ∷ []
-  pub columns-back : tagsAt (words (1 ∷ 2 ∷ 3 ∷ 4 ∷ 5 ∷ [])) ≡ columnsBy 2 3 4 5
-  pub dense-back : tagsAt (words (2 ∷ 2 ∷ 3 ∷ 4 ∷ 5 ∷ [])) ≡ tags.KeysVals (place 2 3)
-  pub tags-ended-back : tagsAt (words (0 ∷ 2 ∷ 3 ∷ 4 ∷ 5 ∷ [])) ≡ tags.Ended
-  pub tags-phase-three : tagsAt (words (3 ∷ 2 ∷ 3 ∷ 4 ∷ 5 ∷ [])) ≡ tags.KeysVals (place 1 0)
   pub members-words : memberWords (membersWith 2 3 4 5 (negsuc 5) 7 8) ≡ 1 ∷ 2 ∷ 3 ∷ 4 ∷ 5 ∷ minus 6 ∷ 7 ∷ 8 ∷ []
   pub members-ended-words : memberWords members.Ended ≡ 0 ∷ 0 ∷ 0 ∷ 0 ∷ 0 ∷ 0 ∷ 0 ∷ 0 ∷ []
   pub members-back : membersAt (words (1 ∷ 2 ∷ 3 ∷ 4 ∷ 5 ∷ minus 6 ∷ 7 ∷ 8 ∷ [])) ≡ membersWith 2 3 4 5 (negsuc 5) 7 8
@@ -83,15 +61,13 @@ pub record States : Type 0 where
   pub members-phase-two : membersAt (words (2 ∷ 2 ∷ 3 ∷ 4 ∷ 5 ∷ 6 ∷ 7 ∷ 8 ∷ [])) ≡ membersWith 1 0 1 0 (pos 0) 1 0
   -- an item's numbers
   pub ref-item : refItem (negsuc 0) ≡ minus 1 ∷ []
-  pub raw-tag-item : rawTagItem (pairBy 1 2) ≡ 1 ∷ 2 ∷ []
-  pub tag-item : tagItem (tagBy (pairBy 1 2) (partBy 3 4) (partBy 5 6)) ≡ 1 ∷ 2 ∷ 3 ∷ 4 ∷ 5 ∷ 6 ∷ []
   pub node-item : memberItem (record { role = negsuc 0; id = id.Node (pos 5) }) ≡ minus 1 ∷ 0 ∷ 0 ∷ 5 ∷ []
   pub way-item : memberItem (record { role = pos 7; id = id.Way (negsuc 4) }) ≡ 7 ∷ 1 ∷ 1 ∷ minus 5 ∷ []
   pub relation-item : memberItem (record { role = pos 7; id = id.Relation (pos 5) }) ≡ 7 ∷ 2 ∷ 2 ∷ 5 ∷ []
   pub unknown-item : memberItem (record { role = pos 7; id = id.Unknown (negsuc 3) (pos 5) }) ≡ 7 ∷ 3 ∷ minus 4 ∷ 5 ∷ []
 
 pub states-worked : States
-unfolding little bytes numberAt signed twos residue words refsAt tagsAt membersAt
+unfolding little bytes numberAt signed twos residue words refsAt membersAt
 states-worked =
     record {
       refs-words = refl;
@@ -99,21 +75,12 @@ states-worked =
       refs-back = refl;
       refs-ended-back = refl;
       refs-phase-two = refl;
-      columns-words = refl;
-      dense-words = refl;
-      tags-ended-words = refl;
-      columns-back = refl;
-      dense-back = refl;
-      tags-ended-back = refl;
-      tags-phase-three = refl;
       members-words = refl;
       members-ended-words = refl;
       members-back = refl;
       members-ended-back = refl;
       members-phase-two = refl;
       ref-item = refl;
-      raw-tag-item = refl;
-      tag-item = refl;
       node-item = refl;
       way-item = refl;
       relation-item = refl;
@@ -125,10 +92,10 @@ abbrev steps : List ℕ
 steps = 0x02 ∷ 0x02 ∷ 0x01 ∷ []
 
 -- four numbers, and a record of their four bytes with no strings
-abbrev numbered : List ℕ
+abbrev pub numbered : List ℕ
 numbered = 0x01 ∷ 0x02 ∷ 0x02 ∷ 0x04 ∷ []
 
-abbrev recorded : List ℕ
+abbrev pub recorded : List ℕ
 recorded = words (4 ∷ 0 ∷ 4 ∷ 0 ∷ 4 ∷ 100 ∷ 1000 ∷ 0 ∷ 0 ∷ [])
 
 -- an item of one number
@@ -151,15 +118,9 @@ pub record Answers : Type 0 where
   pub slot-short : refsCall steps (take 31 (words (1 ∷ 0 ∷ 3 ∷ 0 ∷ []))) 9 ≡ leaves 14
   pub slot-ended : refsCall steps (words (0 ∷ 9 ∷ 9 ∷ 9 ∷ [])) 0 ≡ leaves 101
   pub slot-ended-short : refsCall steps (take 31 (words (0 ∷ 0 ∷ 0 ∷ 0 ∷ []))) 0 ≡ leaves 14
-  pub tags-ended-first : tagsCall [] (blank 71) (words (0 ∷ 9 ∷ 9 ∷ 9 ∷ 9 ∷ [])) 0 ≡ leaves 101
-  pub tags-slot-short : tagsCall [] (blank 71) (take 39 (words (0 ∷ 9 ∷ 9 ∷ 9 ∷ 9 ∷ []))) 0 ≡ leaves 14
   pub members-ended-first : membersCall [] (blank 71) (words (0 ∷ 9 ∷ 9 ∷ 9 ∷ 9 ∷ 9 ∷ 9 ∷ 9 ∷ [])) 0 ≡ leaves 101
   pub members-slot-short : membersCall [] (blank 71) (take 63 (words (0 ∷ 9 ∷ 9 ∷ 9 ∷ 9 ∷ 9 ∷ 9 ∷ 9 ∷ []))) 0 ≡ leaves 14
-  -- tags and members; over a record where one can be read
-  pub pairs-of-columns : rawTagsCall numbered (words (1 ∷ 0 ∷ 2 ∷ 2 ∷ 4 ∷ [])) 9 ≡ asks (gives (pairBy 1 2) (pairBy 2 4 ∷ []) (end ended))
-  pub pairs-of-a-dense-node : rawTagsCall numbered (words (2 ∷ 0 ∷ 4 ∷ 0 ∷ 0 ∷ [])) 1 ≡ asks (gives (pairBy 1 2) [] (more (pairBy 2 4) (end ended)))
-  pub tags-without-texts : tagsCall numbered recorded (words (1 ∷ 0 ∷ 2 ∷ 2 ∷ 4 ∷ [])) 9 ≡ asks (tells ended)
-  pub tags-without-a-record : tagsCall numbered (take 71 recorded) (words (1 ∷ 0 ∷ 2 ∷ 2 ∷ 4 ∷ [])) 9 ≡ asks (tells (cut Outside))
+  -- members, over a record where one can be read
   pub a-member : membersCall numbered recorded (words (1 ∷ 0 ∷ 1 ∷ 2 ∷ 3 ∷ 5 ∷ 0 ∷ 1 ∷ [])) 9 ≡ asks (gives (record { role = pos 1; id = id.Way (pos 6) }) [] (end ended))
   pub members-without-a-record : membersCall numbered (take 71 recorded) (words (1 ∷ 0 ∷ 1 ∷ 2 ∷ 3 ∷ 5 ∷ 0 ∷ 1 ∷ [])) 9 ≡ asks (tells (cut Outside))
   -- codes
@@ -181,7 +142,7 @@ pub record Answers : Type 0 where
   pub left-as-it-was : SlotLeft refsAt refWords refs.Ended (refsFrom steps) (words (0 ∷ 9 ∷ 9 ∷ 9 ∷ [])) (refsCall steps (words (0 ∷ 9 ∷ 9 ∷ 9 ∷ [])) 1) (words (0 ∷ 9 ∷ 9 ∷ 9 ∷ []))
 
 pub answers-worked : Answers
-unfolding little bytes numberAt signed twos residue words refsAt tagsAt membersAt first past answered itemsPut andThen digits varint unrolled valueAt columnFrom ahead mapped zip unzigzag zigzag wrap sumsFrom pairsOf rawTagsFrom foundTags tagsBy membersBy getAt recordIn
+unfolding little bytes numberAt signed twos residue words refsAt membersAt first past answered itemsPut andThen digits varint unrolled valueAt columnFrom ahead mapped zip unzigzag zigzag wrap sumsFrom membersBy recordIn
 answers-worked =
     record {
       one-item = refl;
@@ -196,14 +157,8 @@ answers-worked =
       slot-short = refl;
       slot-ended = refl;
       slot-ended-short = refl;
-      tags-ended-first = refl;
-      tags-slot-short = refl;
       members-ended-first = refl;
       members-slot-short = refl;
-      pairs-of-columns = refl;
-      pairs-of-a-dense-node = refl;
-      tags-without-texts = refl;
-      tags-without-a-record = refl;
       a-member = refl;
       members-without-a-record = refl;
       code-left = refl;
@@ -220,81 +175,4 @@ answers-worked =
       left-behind = record { holds = refl; rest = refl };
       left-ended = refl;
       left-as-it-was = refl;
-    }
-
-abbrev ofNumbers : List ℕ → List ℕ
-ofNumbers ns = take 208 (words ns ++ replicate 208 0)
-
-abbrev inBytes : Element → List ℕ
-inBytes e = words (elementWords 21 (partBy 22 23) e) ++ blank 208
-
-abbrev aDense : Element
-aDense = element.DenseNode (record { id = pos 5; lat = pos 6; lon = pos 7; tags = place 2 4; info = info.Missing })
-
-abbrev aNode : Element
-aNode = element.Node (record { id = pos 5; lat = pos 6; lon = pos 7; keys = partBy 5 6; vals = partBy 7 8; info = noPart })
-
-abbrev aWay : Element
-aWay =
-    element.Way (record { id = pos 5; keys = partBy 5 6; vals = partBy 7 8; info = noPart; refs = partBy 9 10; lat = partBy 1 2; lon = partBy 3 4; pins = noPart })
-
-abbrev aRelation : Element
-aRelation =
-    element.Relation (record { id = pos 5; keys = partBy 5 6; vals = partBy 7 8; info = noPart; roles = partBy 9 10; memids = partBy 11 12; types = partBy 13 14 })
-
--- where an element starts
-pub record Starts : Type 0 where
-  -- from the bytes of an element of each kind
-  pub refs-of-a-way : refsStartIn (inBytes aWay) ≡ kept (refsWith 9 19 (pos 0))
-  pub refs-of-a-dense-node : refsStartIn (inBytes aDense) ≡ kept refs.Ended
-  pub refs-of-a-node : refsStartIn (inBytes aNode) ≡ kept refs.Ended
-  pub refs-of-a-relation : refsStartIn (inBytes aRelation) ≡ kept refs.Ended
-  pub tags-of-a-dense-node : tagsStartIn (inBytes aDense) ≡ kept (tags.KeysVals (place 2 4))
-  pub tags-of-a-node : tagsStartIn (inBytes aNode) ≡ kept (columnsBy 5 11 7 15)
-  pub tags-of-a-way : tagsStartIn (inBytes aWay) ≡ kept (columnsBy 5 11 7 15)
-  pub tags-of-a-relation : tagsStartIn (inBytes aRelation) ≡ kept (columnsBy 5 11 7 15)
-  pub members-of-a-relation : membersStartIn (inBytes aRelation) ≡ kept (membersWith 9 19 11 23 (pos 0) 13 27)
-  pub members-of-a-dense-node : membersStartIn (inBytes aDense) ≡ kept members.Ended
-  pub members-of-a-node : membersStartIn (inBytes aNode) ≡ kept members.Ended
-  pub members-of-a-way : membersStartIn (inBytes aWay) ≡ kept members.Ended
-  -- 14: too short, another kind, and a part that is neither there nor not
-  pub refs-short : refsStartIn (take 207 (inBytes aNode)) ≡ refused Outside
-  pub tags-short : tagsStartIn (take 207 (inBytes aNode)) ≡ refused Outside
-  pub members-short : membersStartIn (take 207 (inBytes aNode)) ≡ refused Outside
-  pub refs-of-kind-four : refsStartIn (ofNumbers (4 ∷ [])) ≡ refused Outside
-  pub tags-of-kind-four : tagsStartIn (ofNumbers (4 ∷ [])) ≡ refused Outside
-  pub members-of-kind-four : membersStartIn (ofNumbers (4 ∷ [])) ≡ refused Outside
-  pub refs-flag-two : refsStartIn (ofNumbers (2 ∷ 0 ∷ 0 ∷ 0 ∷ 0 ∷ 0 ∷ 0 ∷ 0 ∷ 0 ∷ 0 ∷ 0 ∷ 0 ∷ 0 ∷ 0 ∷ 2 ∷ [])) ≡ refused Outside
-  pub keys-flag-two : tagsStartIn (ofNumbers (2 ∷ 0 ∷ 0 ∷ 0 ∷ 0 ∷ 2 ∷ [])) ≡ refused Outside
-  pub vals-flag-two : tagsStartIn (ofNumbers (1 ∷ 0 ∷ 0 ∷ 0 ∷ 0 ∷ 0 ∷ 0 ∷ 0 ∷ 0 ∷ 0 ∷ 2 ∷ [])) ≡ refused Outside
-  pub types-flag-two : membersStartIn (ofNumbers (3 ∷ 0 ∷ 0 ∷ 0 ∷ 0 ∷ 0 ∷ 0 ∷ 0 ∷ 0 ∷ 0 ∷ 0 ∷ 0 ∷ 0 ∷ 0 ∷ 0 ∷ 0 ∷ 0 ∷ 0 ∷ 0 ∷ 0 ∷ 2 ∷ [])) ≡ refused Outside
-  pub part-not-there : tagsStartIn (ofNumbers (2 ∷ [])) ≡ kept (columnsBy 0 0 0 0)
-
-pub starts-worked : Starts
-unfolding little bytes numberAt signed twos residue words startOf refsStartIn tagsStartIn membersStartIn
-starts-worked =
-    record {
-      refs-of-a-way = refl;
-      refs-of-a-dense-node = refl;
-      refs-of-a-node = refl;
-      refs-of-a-relation = refl;
-      tags-of-a-dense-node = refl;
-      tags-of-a-node = refl;
-      tags-of-a-way = refl;
-      tags-of-a-relation = refl;
-      members-of-a-relation = refl;
-      members-of-a-dense-node = refl;
-      members-of-a-node = refl;
-      members-of-a-way = refl;
-      refs-short = refl;
-      tags-short = refl;
-      members-short = refl;
-      refs-of-kind-four = refl;
-      tags-of-kind-four = refl;
-      members-of-kind-four = refl;
-      refs-flag-two = refl;
-      keys-flag-two = refl;
-      vals-flag-two = refl;
-      types-flag-two = refl;
-      part-not-there = refl;
     }

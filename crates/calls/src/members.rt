@@ -55,9 +55,9 @@ pub fn members_in(slot: &[u8]) -> RelMemberIter
     }
     if phase == 1 {
         return RelMemberIter::Members(MemberColumns {
-            roles: column_in(slot, 8),
+            roles: column_in(slot, 8, 16),
             memids: sum_in(slot, 24),
-            types: column_in(slot, 48),
+            types: column_in(slot, 48, 56),
         });
     }
     RelMemberIter::Members(MemberColumns {

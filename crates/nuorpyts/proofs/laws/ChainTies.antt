@@ -39,10 +39,10 @@ use Rattle.answers.proofs.laws.Words.{words-length}
 use Rattle.answers.proofs.laws.Codes.{long-enough}
 use Rattle.calls.specs.Calls.{oneRoom, roomFor, callCode, itemsOf, itemsPut, countAfter, SlotLeft}
 use Rattle.calls.specs.References.{refWords, refsAt, refsOver, refItem}
-use Rattle.calls.specs.Tags.{tagWords, tagsAt, tagsOver, tagsIn, tagItem}
+use Rattle.tag_calls.specs.Tags.{tagWords, tagsAt, tagsOver, tagsIn, tagItem}
 use Rattle.calls.specs.Members.{memberWords, membersAt, membersOver, membersIn, memberItem}
-use Rattle.calls.specs.Starts.{refsStartIn, tagsStartIn, membersStartIn, startedBy}
-use Rattle.calls.proofs.laws.Starts.{refs-width, tags-width, members-width}
+use Rattle.start_calls.specs.Starts.{refsStartIn, tagsStartIn, membersStartIn, startedBy}
+use Rattle.start_calls.proofs.laws.Starts.{refs-width, tags-width, members-width}
 use Rattle.walk_slots.specs.Slot.{walkWords, walkAt}
 use Rattle.walk_calls.specs.Steps.{Put, foundBy, ElementsIn, walkOver, walkIn}
 use Rattle.walk_calls.specs.Chain.{callOn, CallPost}

@@ -35,9 +35,9 @@ use Rattle.walk.proofs.claim.Starts.{tags-start, references-start, members-star
 use Rattle.answers.specs.Record.{recordIn}
 use Rattle.calls.specs.Slots.{withRecord}
 use Rattle.calls.specs.References.{refWords, refsAt, refsOver}
-use Rattle.calls.specs.Tags.{tagWords, tagsAt, tagsOver, tagsIn}
+use Rattle.tag_calls.specs.Tags.{tagWords, tagsAt, tagsOver, tagsIn}
 use Rattle.calls.specs.Members.{memberWords, membersAt, membersOver, membersIn}
-use Rattle.calls.proofs.laws.Tags as tag-laws
+use Rattle.tag_calls.proofs.laws.Tags as tag-laws
 use Rattle.calls.proofs.laws.References as ref-laws
 use Rattle.calls.proofs.laws.Members as member-laws
 use Rattle.walk_slots.specs.Slot.{walkWords, walkAt}

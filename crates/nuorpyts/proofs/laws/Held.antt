@@ -40,8 +40,8 @@ use Rattle.walk.specs.Shows.{Streams, all-out, one-more, TagShows, MemberShows,
 use Rattle.answers.specs.Words.{words, flag, signedWord}
 use Rattle.layouts.specs.Views.{partsWords}
 use Rattle.layouts.specs.Element.{nodeInfoWords, elementWords}
-use Rattle.calls.specs.Starts.{refsStartIn, tagsStartIn, membersStartIn}
-use Rattle.calls.proofs.laws.Elements.{ElementHeld, refs-started, tags-started, members-started}
+use Rattle.start_calls.specs.Starts.{refsStartIn, tagsStartIn, membersStartIn}
+use Rattle.start_calls.proofs.laws.Elements.{ElementHeld, refs-started, tags-started, members-started}
 use Rattle.walk_calls.specs.Steps.{Put, foundBy, putWords}
 
 -- ---- numbers as 8 bytes hold them

@@ -18,7 +18,7 @@ use Rattle.walk.specs.Walk.{Found}
 use Rattle.answers.specs.Words.{words}
 use Rattle.answers.proofs.laws.Words.{words-length}
 use Rattle.calls.specs.Calls.{first, answered, callBy, itemsOf, itemsPut, oneRoom, roomFor}
-use Rattle.calls.proofs.laws.Elements.{element-in-batch}
+use Rattle.start_calls.proofs.laws.Elements.{element-in-batch}
 use Rattle.walk_slots.specs.Slot.{walkAt}
 use Rattle.walk_calls.specs.Steps.{Put, foundBy, putWords, ElementsIn, walkOver, walkIn, walkCall}
 use Rattle.walk_calls.proofs.laws.Steps.{put-small}

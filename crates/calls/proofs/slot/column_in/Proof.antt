@@ -8,6 +8,5 @@ column-in-spec =
     tie.close
     (tie.spec
     (λ c κs. search needs)
-    (λ c. search needs)
     (λ c κs. search needs)
     (λ c. λ i. record { at = c .before .read-u64 .ensures i; end = c .read-u642 .ensures i }))

@@ -11,6 +11,7 @@ pub sum-in-spec : {M : Type 1} → statement M
 sum-in-spec =
     tie.close
     (tie.spec
+    (λ c. search needs)
     (λ c κs. search needs)
     (λ c. search needs)
     (λ c κs. search needs)

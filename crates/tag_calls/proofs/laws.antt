@@ -1,0 +1,3 @@
+-- One file of laws for each subject.
+pub mod Tags
+pub mod ShortTags

@@ -1,0 +1,3 @@
+-- The states and items of tags through C.
+pub mod Tags
+pub mod Worked
