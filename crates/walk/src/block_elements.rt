@@ -20,7 +20,6 @@ use crate::steps::part_of;
 use crate::steps::walk_full_dense;
 use crate::steps::walk_messages;
 use crate::turns::Move;
-use crate::turns::Turn;
 use crate::turns::move_out;
 use crate::turns::move_to;
 use elements::element::Element;
@@ -113,10 +112,11 @@ fn advance(buffer: &[u8], block: WireBlock, mut state: BlockElementsIter) -> Ele
             _ => {
                 let m = turn(buffer, block, state);
                 let next = m.next;
-                let turned = m.turn;
-                match turned {
-                    Turn::Moves => state = next,
-                    Turn::Says(said) => return ElementStep { said, next },
+                if m.quiet {
+                    state = next;
+                } else {
+                    let said = m.said;
+                    return ElementStep { said, next };
                 }
             }
         }

@@ -1,13 +1,16 @@
 // Whether a walk's state is inside a buffer and a record: every range in it, and its group's number.
 ghost use mathlib.Core.Path.{_≡_};
 ghost use Rattle.walk.specs.State.{groupInside, denseInside, stateInside};
+ghost use Rattle.walk.specs.Moves.{amongFull, amongMessages};
 use crate::state::BlockElementsIter;
 use crate::state::DenseNodeIter;
+use crate::state::FullDenseNodeIter;
 use columns::inside::are_infos_inside;
 use columns::inside::are_rows_inside;
 use columns::inside::is_column_inside;
 use fields::part::part_fits;
 use kinds::state::GroupRangeAt;
+use kinds::state::Messages;
 use wire::record::WireBlock;
 
 // Whether the number is below the count, and the range in the buffer.
@@ -36,6 +39,26 @@ pub fn dense_inside(buffer: &[u8], block: WireBlock, nodes: DenseNodeIter) -> bo
     is_column_inside(buffer, nodes.columns.keyvals)
 }
 
+// The same with the columns of DenseInfo.
+fn full_inside(buffer: &[u8], block: WireBlock, full: FullDenseNodeIter) -> bool
+    ensures { λ r. ⌜ r ≡ stateInside (now (buffer .entry)) block (amongFull full) ⌝ }
+{
+    if !dense_inside(buffer, block, full.nodes) {
+        return false;
+    }
+    are_infos_inside(buffer, full.infos)
+}
+
+// Whether the group is inside, and the place in the group.
+fn messages_inside(buffer: &[u8], block: WireBlock, m: Messages) -> bool
+    ensures { λ r. ⌜ r ≡ stateInside (now (buffer .entry)) block (amongMessages m) ⌝ }
+{
+    if !group_inside(buffer, block, m.of) {
+        return false;
+    }
+    m.at <= m.of.len
+}
+
 // Whether a state is inside: 14 before anything is read where it is not.
 pub(crate) fn state_inside(buffer: &[u8], block: WireBlock, state: BlockElementsIter) -> bool
     ensures { λ r. ⌜ r ≡ stateInside (now (buffer .entry)) block state ⌝ }
@@ -44,17 +67,7 @@ pub(crate) fn state_inside(buffer: &[u8], block: WireBlock, state: BlockElements
         BlockElementsIter::Ended => true,
         BlockElementsIter::Between(b) => b.group <= block.groups,
         BlockElementsIter::DenseNodes(nodes) => dense_inside(buffer, block, nodes),
-        BlockElementsIter::FullDenseNodes(full) => {
-            if !dense_inside(buffer, block, full.nodes) {
-                return false;
-            }
-            are_infos_inside(buffer, full.infos)
-        }
-        BlockElementsIter::Messages(m) => {
-            if !group_inside(buffer, block, m.of) {
-                return false;
-            }
-            m.at <= m.of.len
-        }
+        BlockElementsIter::FullDenseNodes(full) => full_inside(buffer, block, full),
+        BlockElementsIter::Messages(m) => messages_inside(buffer, block, m),
     }
 }

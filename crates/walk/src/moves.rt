@@ -1,12 +1,10 @@
 // The moves of a walk that hand out nothing: into a group, and from one kind of its messages to the next.
 ghost use mathlib.Core.Path.{_≡_};
-ghost use mathlib.Core.Bool.{true};
-ghost use Prim.Native.Nat.{_+_, _-_, _^_, _≤_, _<_};
-ghost use Rattle.lookup.specs.Lookup.{isRecordInside};
-ghost use Rattle.columns.specs.InStep.{startOf};
+ghost use mathlib.Core.Bool.{Bool, true};
+ghost use Prim.Native.Nat.{_+_, _-_, _^_, _<_};
 ghost use Rattle.walk.specs.State.{groupInside, denseInside};
-ghost use Rattle.walk.specs.Walk.{rowsStart, infosStart, groupsFrom};
-ghost use Rattle.walk.specs.Moves.{leftFrom, beforeKind, behindKind, atDense, atInfos, Quietly};
+ghost use Rattle.walk.specs.Walk.{denseStart, infosStart, groupsFrom};
+ghost use Rattle.walk.specs.Moves.{leftFrom, beforeKind, behindKind, amongFull, movesTo, atDense, atInfos, entryAhead, entryStands, Quietly};
 use crate::state::Between;
 use crate::state::BlockElementsIter;
 use crate::state::DenseNodeIter;
@@ -30,11 +28,19 @@ use kinds::state::Loose;
 use kinds::state::Messages;
 use lookup::by_number::GroupRange;
 use lookup::by_number::group;
+use protobuf::refusal::Refusal;
 use views::dense_info::DenseInfoParse;
 use views::dense_info::WireDenseInfo;
 use views::dense_nodes::DenseNodesParse;
 use views::dense_nodes::WireDenseNodes;
 use wire::record::WireBlock;
+
+// What stands at a group's number: a group, with its dense message, present or not; or no group any more.
+enum Entry {
+    Group { of: GroupRangeAt, message: Part },
+    Past,
+    Refused(Refusal),
+}
 
 // Before the messages of a kind.
 pub(crate) fn messages_of(full: bool, of: GroupRangeAt, kind: Loose) -> BlockElementsIter
@@ -46,6 +52,13 @@ pub(crate) fn messages_of(full: bool, of: GroupRangeAt, kind: Loose) -> BlockEle
         kind,
         at: 0,
     })
+}
+
+// To the messages of a kind.
+pub(crate) fn begin_kind(full: bool, of: GroupRangeAt, kind: Loose) -> Move
+    ensures { λ r. ⌜ r ≡ movesTo (beforeKind full of kind) ⌝ }
+{
+    move_to(messages_of(full, of, kind))
 }
 
 // Behind the last message of a kind.
@@ -65,21 +78,28 @@ pub(crate) fn behind_kind(full: bool, of: GroupRangeAt, kind: Loose) -> BlockEle
     }
 }
 
-// The columns of a dense message before its first node.
-fn start_columns(v: WireDenseNodes) -> DenseColumns
-    ensures { λ r. ⌜ r ≡ record { rows = rowsStart v; keyvals = startOf (v .keyvals) } ⌝ }
+// Before the first node of a dense message.
+fn start_nodes(of: GroupRangeAt, message: Part, v: WireDenseNodes) -> DenseNodeIter
+    ensures { λ r. ⌜ r ≡ denseStart of message v ⌝ }
 {
-    DenseColumns {
-        rows: RowColumns {
-            ids: start_sum64(v.id),
-            lats: start_sum64(v.lat),
-            lons: start_sum64(v.lon),
+    DenseNodeIter {
+        of,
+        message: Range {
+            start: message.start,
+            len: message.len,
         },
-        keyvals: start_column(v.keyvals),
+        columns: DenseColumns {
+            rows: RowColumns {
+                ids: start_sum64(v.id),
+                lats: start_sum64(v.lat),
+                lons: start_sum64(v.lon),
+            },
+            keyvals: start_column(v.keyvals),
+        },
     }
 }
 
-// The same of its DenseInfo.
+// The columns of a DenseInfo before their first row.
 fn start_infos(v: WireDenseInfo) -> InfoColumns
     ensures { λ r. ⌜ r ≡ infosStart v ⌝ }
 {
@@ -93,6 +113,16 @@ fn start_infos(v: WireDenseInfo) -> InfoColumns
     }
 }
 
+// To dense nodes with metadata, before the first of them.
+fn begin_infos(nodes: DenseNodeIter, v: WireDenseInfo) -> Move
+    ensures { λ r. ⌜ r ≡ movesTo (amongFull (record { nodes = nodes; infos = infosStart v })) ⌝ }
+{
+    move_to(BlockElementsIter::FullDenseNodes(FullDenseNodeIter {
+        nodes,
+        infos: start_infos(v),
+    }))
+}
+
 // To the dense nodes of a group with metadata.
 fn enter_infos(buffer: &[u8], block: WireBlock, nodes: DenseNodeIter, info: Part) -> Move
     requires { ⌜ denseInside (now buffer) block nodes ≡ true ⌝ }
@@ -101,12 +131,7 @@ fn enter_infos(buffer: &[u8], block: WireBlock, nodes: DenseNodeIter, info: Part
     let q = WireDenseInfo::parse(buffer, info.start, info.len);
     match q {
         DenseInfoParse::Refused(n) => return move_refused(n),
-        DenseInfoParse::Parsed(v) => {
-            return move_to(BlockElementsIter::FullDenseNodes(FullDenseNodeIter {
-                nodes,
-                infos: start_infos(v),
-            }));
-        }
+        DenseInfoParse::Parsed(v) => return begin_infos(nodes, v),
     }
 }
 
@@ -119,14 +144,7 @@ fn enter_dense(buffer: &[u8], block: WireBlock, full: bool, of: GroupRangeAt, me
     match p {
         DenseNodesParse::Refused(n) => return move_refused(n),
         DenseNodesParse::Parsed(v) => {
-            let nodes = DenseNodeIter {
-                of,
-                message: Range {
-                    start: message.start,
-                    len: message.len,
-                },
-                columns: start_columns(v),
-            };
+            let nodes = start_nodes(of, message, v);
             if full {
                 return enter_infos(buffer, block, nodes, v.info);
             }
@@ -135,35 +153,49 @@ fn enter_dense(buffer: &[u8], block: WireBlock, full: bool, of: GroupRangeAt, me
     }
 }
 
-// Into a group: its entry, then the dense pass over all its fields.
-pub(crate) fn enter(buffer: &[u8], block: WireBlock, at: Between) -> Move
-    requires { ⌜ (isRecordInside (now buffer) block ≡ true) × (at .group ≤ block .groups) ⌝ }
-    ensures { λ r. ⌜ Quietly (now (buffer .entry)) block (leftFrom block (at .group)) (groupsFrom (at .full) (now (buffer .entry)) block (block .groups - at .group) (at .group)) r ⌝ }
+// A group by its number: its entry, then the dense pass over all its fields.
+fn find_group(buffer: &[u8], block: WireBlock, number: usize) -> Entry
+    ensures says { λ r. ⌜ ((full : Bool) → entryAhead full (now (buffer .entry)) block r ≡ groupsFrom full (now (buffer .entry)) block (block .groups - number) number) ⌝ }
+    ensures stands { λ r. ⌜ entryStands (now (buffer .entry)) block number r ≡ true ⌝ }
 {
-    let full = at.full;
-    let number = at.group;
     if block.groups <= number {
-        return move_out();
+        return Entry::Past;
     }
     let g = group(buffer, block, number);
     match g {
-        GroupRange::Refused(n) => return move_refused(n),
+        GroupRange::Refused(n) => return Entry::Refused(n),
         GroupRange::Range(p) => {
-            let of = GroupRangeAt {
-                group: number,
-                start: p.start,
-                len: p.len,
-            };
             let d = dense(buffer, p.start, p.len);
             match d {
-                DenseFound::Refused(n) => return move_refused(n),
+                DenseFound::Refused(n) => return Entry::Refused(n),
                 DenseFound::Found(message) => {
-                    if message.present {
-                        return enter_dense(buffer, block, full, of, message);
-                    }
-                    return move_to(messages_of(full, of, Loose::Nodes));
+                    return Entry::Group {
+                        of: GroupRangeAt {
+                            group: number,
+                            start: p.start,
+                            len: p.len,
+                        },
+                        message,
+                    };
                 }
             }
+        }
+    }
+}
+
+// Into a group: to its dense nodes, or to its nodes where it has no dense message.
+pub(crate) fn enter(buffer: &[u8], block: WireBlock, at: Between) -> Move
+    ensures { λ r. ⌜ Quietly (now (buffer .entry)) block (leftFrom block (at .group)) (groupsFrom (at .full) (now (buffer .entry)) block (block .groups - at .group) (at .group)) r ⌝ }
+{
+    let e = find_group(buffer, block, at.group);
+    match e {
+        Entry::Past => return move_out(),
+        Entry::Refused(n) => return move_refused(n),
+        Entry::Group { of, message } => {
+            if message.present {
+                return enter_dense(buffer, block, at.full, of, message);
+            }
+            return begin_kind(at.full, of, Loose::Nodes);
         }
     }
 }

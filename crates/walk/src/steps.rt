@@ -5,9 +5,9 @@ ghost use Rattle.lookup.specs.Lookup.{isRecordInside};
 ghost use Rattle.walk.specs.State.{stateInside};
 ghost use Rattle.walk.specs.Walk.{partOf, elementsBy};
 ghost use Rattle.walk.specs.Said.{denseElement};
-ghost use Rattle.walk.specs.Moves.{left, amongFull, amongMessages, Quietly};
+ghost use Rattle.walk.specs.Moves.{left, amongFull, amongMessages, fullSaidBy, messageSaidBy, Quietly};
+use crate::moves::begin_kind;
 use crate::moves::behind_kind;
-use crate::moves::messages_of;
 use crate::state::BlockElementsIter;
 use crate::state::FullDenseNodeIter;
 use crate::state::Range;
@@ -15,6 +15,7 @@ use crate::turns::Move;
 use crate::turns::move_refused;
 use crate::turns::move_to;
 use crate::turns::move_with;
+use columns::info_rows::InfoColumns;
 use columns::zip::RowColumns;
 use elements::element::DenseNode;
 use elements::element::Element;
@@ -24,6 +25,7 @@ use kinds::dense_nodes::FullDenseStep;
 use kinds::dense_nodes::next_full_dense;
 use kinds::messages::LooseStep;
 use kinds::messages::next_loose;
+use kinds::state::DenseColumns;
 use kinds::state::Loose;
 use kinds::state::Messages;
 use protobuf::column::Column;
@@ -53,6 +55,17 @@ pub(crate) fn dense_element(rows: RowColumns, tags: Column, info: NodeInfo) -> E
     })
 }
 
+// A dense node with metadata, with the columns behind it.
+fn say_full(d: FullDenseNodeIter, info: NodeInfo, columns: DenseColumns, infos: InfoColumns) -> Move
+    ensures { λ r. ⌜ r ≡ fullSaidBy d info columns infos ⌝ }
+{
+    let mut nodes = d.nodes;
+    nodes.columns = columns;
+    let next = BlockElementsIter::FullDenseNodes(FullDenseNodeIter { nodes, infos });
+    let element = dense_element(columns.rows, d.nodes.columns.keyvals, info);
+    move_with(d.nodes.of.group, part_of(d.nodes.message), element, next)
+}
+
 // Among dense nodes with metadata.
 pub(crate) fn walk_full_dense(buffer: &[u8], block: WireBlock, d: FullDenseNodeIter) -> Move
     requires { ⌜ (isRecordInside (now buffer) block ≡ true) × (stateInside (now buffer) block (amongFull d) ≡ true) ⌝ }
@@ -61,26 +74,27 @@ pub(crate) fn walk_full_dense(buffer: &[u8], block: WireBlock, d: FullDenseNodeI
     let r = next_full_dense(buffer, d.nodes.columns, d.infos);
     match r {
         FullDenseStep::Refused(n) => return move_refused(n),
-        FullDenseStep::Ended => return move_to(messages_of(true, d.nodes.of, Loose::Nodes)),
+        FullDenseStep::Ended => return begin_kind(true, d.nodes.of, Loose::Nodes),
         FullDenseStep::Node {
             info,
-            columns: next,
-            infos: others,
-        } => {
-            let element = dense_element(next.rows, d.nodes.columns.keyvals, info);
-            let mut nodes = d.nodes;
-            nodes.columns = next;
-            return move_with(
-                nodes.of.group,
-                part_of(nodes.message),
-                element,
-                BlockElementsIter::FullDenseNodes(FullDenseNodeIter {
-                    nodes,
-                    infos: others,
-                }),
-            );
-        }
+            columns,
+            infos,
+        } => return say_full(d, info, columns, infos),
     }
+}
+
+// A message, with the place behind it.
+fn say_message(m: Messages, message: Part, element: Element, at: usize) -> Move
+    ensures { λ r. ⌜ r ≡ messageSaidBy m message element at ⌝ }
+{
+    let mut next = m;
+    next.at = at;
+    move_with(
+        m.of.group,
+        message,
+        element,
+        BlockElementsIter::Messages(next),
+    )
 }
 
 // Among the messages of a kind.
@@ -99,15 +113,6 @@ pub(crate) fn walk_messages(buffer: &[u8], block: WireBlock, m: Messages) -> Mov
             message,
             element,
             at,
-        } => {
-            let mut next = m;
-            next.at = at;
-            return move_with(
-                m.of.group,
-                message,
-                element,
-                BlockElementsIter::Messages(next),
-            );
-        }
+        } => return say_message(m, message, element, at),
     }
 }

@@ -8,14 +8,10 @@ use elements::element::Element;
 use fields::part::Part;
 use protobuf::refusal::Refusal;
 
-pub enum Turn {
-    Moves,
-    Says(Said),
-}
-
-// With the state behind it, whichever it is.
+// With the state behind it, whichever it is. Where it is quiet, what it says is not told.
 pub struct Move {
-    pub turn: Turn,
+    pub quiet: bool,
+    pub said: Said,
     pub next: BlockElementsIter,
 }
 
@@ -24,7 +20,8 @@ pub(crate) fn move_to(next: BlockElementsIter) -> Move
     ensures { λ r. ⌜ r ≡ movesTo next ⌝ }
 {
     Move {
-        turn: Turn::Moves,
+        quiet: true,
+        said: Said::Ended,
         next,
     }
 }
@@ -34,7 +31,8 @@ pub(crate) fn move_out() -> Move
     ensures { λ r. ⌜ r ≡ movesOut ⌝ }
 {
     Move {
-        turn: Turn::Says(Said::Ended),
+        quiet: false,
+        said: Said::Ended,
         next: BlockElementsIter::Ended,
     }
 }
@@ -44,7 +42,8 @@ pub(crate) fn move_refused(refusal: Refusal) -> Move
     ensures { λ r. ⌜ r ≡ movesRefused refusal ⌝ }
 {
     Move {
-        turn: Turn::Says(Said::Refused(refusal)),
+        quiet: false,
+        said: Said::Refused(refusal),
         next: BlockElementsIter::Ended,
     }
 }
@@ -59,11 +58,12 @@ pub(crate) fn move_with(
     ensures { λ r. ⌜ r ≡ movesWith group message element next ⌝ }
 {
     Move {
-        turn: Turn::Says(Said::Element {
+        quiet: false,
+        said: Said::Element {
             group,
             message,
             element,
-        }),
+        },
         next,
     }
 }

@@ -25,6 +25,7 @@ use Rattle.block.proofs.laws.Lists.{Each, no-more, and-also}
 use Rattle.block.proofs.laws.Accepted.{all-passed}
 use Rattle.walk.specs.Walk.{Found, _then_, enterRange, groupsFrom, testedFrom, elementsFrom, fresh}
 use Rattle.walk.specs.Shows.{Streams, all-out}
+use Rattle.walk.proofs.laws.Ahead.{no-groups, first-group}
 use Rattle.walk.proofs.claim.Streams.{streams-then}
 use Rattle.walk.proofs.claim.Place.{each-part}
 use Rattle.walk.proofs.claim.Texts.{Left, left}
@@ -43,14 +44,15 @@ record SameBytes (s block : List ℕ) (n : ℕ) (p : Part) : Type 0 where
 module _ {s : List ℕ} {r : WireBlock} {n : ℕ} {strings : List Text} (l : Left s r n strings) {B : Type 0} {Is : Found → B → Type 0} {full : Bool} {made : ℕ → Made B} (showing : (group : ℕ) → Showing Is full s n group (made group)) (block : List ℕ) where
   groups-shown : (ps : List Part) → Each (SameBytes s block n) ps → Each (λ (g : List ℕ). checkGroup g ≡ passed) (map (bytesIn block) ps) → (group : ℕ) → ((i : ℕ) → groupAt s r (group + i) ≡ rangeBy (getElem? ps i))
       → Streams Is (groupsFrom full s r (length ps) group) (groupsMade made group (map (bytesIn block) ps))
-  unfolding groupsFrom groupsMade
-  groups-shown [] no-more no-more group named = all-out
+  unfolding groupsMade
+  groups-shown [] no-more no-more group named = subst (λ (c : Column Found). Streams Is c []) (sym (no-groups full s r group)) all-out
   groups-shown (p ∷ ps) (and-also x xs) (and-also c cs) group named =
       let here : group ≡ group + 0 = omega arith in
       let this = subst (λ (g : List ℕ). Streams Is (enterRange full s group (range.Range p)) (groupMade (made group) g)) (x .bytes) (group-shown l (showing group) p (x .placed) (ap checkGroup (x .bytes) ∙ c)) in
       let behind : (i : ℕ) → groupAt s r (suc group + i) ≡ rangeBy (getElem? ps i) = λ i. let next : suc group + i ≡ group + suc i = omega arith in ap (groupAt s r) next ∙ named (suc i) in
-      subst (λ (a : GroupRange). Streams Is (enterRange full s group a then groupsFrom full s r (length ps) (suc group)) (groupsMade made group (map (bytesIn block) (p ∷ ps)))) (sym (ap (groupAt s r) here ∙ named 0))
-      (streams-then this (groups-shown ps xs cs (suc group) behind))
+      subst (λ (c : Column Found). Streams Is c (groupsMade made group (map (bytesIn block) (p ∷ ps)))) (sym (first-group full s r group (length ps)))
+      (subst (λ (a : GroupRange). Streams Is (enterRange full s group a then groupsFrom full s r (length ps) (suc group)) (groupsMade made group (map (bytesIn block) (p ∷ ps)))) (sym (ap (groupAt s r) here ∙ named 0))
+      (streams-then this (groups-shown ps xs cs (suc group) behind)))
 
 -- ---- a walk at its start
 

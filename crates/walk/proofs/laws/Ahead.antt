@@ -1,15 +1,17 @@
--- The laws of what is ahead, by its first part: what is read whole and a stream behind it; one kind of elements and others behind it; the
--- messages of a kind, those of the next kinds, and other groups.
+-- The laws of what is ahead, by its first part: what is read whole and a stream behind it; a group and those behind it; one kind of elements
+-- and others behind it; the messages of a kind, those of the next kinds, and other groups.
 use Prim.Native.Nat.{ℕ, suc, _+_, _-_}
-use mathlib.Core.Path.{_≡_, ap, _∙_}
+use mathlib.Core.Path.{_≡_, refl, ap, _∙_}
 use mathlib.Core.List.{List}
+use mathlib.Core.Bool.{Bool}
 use native.Mathlib.Omega.{arith}
 use Rattle.protobuf.specs.declared.refusal.Refusal.{Refusal}
 use Rattle.protobuf.specs.Stream.{end, more, mapped}
 use Rattle.protobuf.specs.Column.{ended, cut, Column}
 use Rattle.fields.specs.Outcome.{Outcome, kept, refused}
 use Rattle.wire.specs.declared.record.WireBlock.{WireBlock}
-use Rattle.walk.specs.Walk.{Found, _then_, behind, groupsFrom, groupsBehind, placedIn, fromKind, elementsBy}
+use Rattle.lookup.specs.Lookup.{groupAt}
+use Rattle.walk.specs.Walk.{Found, _then_, behind, enterRange, groupsFrom, groupsBehind, placedIn, fromKind, elementsBy}
 use Rattle.kinds.specs.Said.{atPlace}
 use Rattle.walk.specs.Moves.{behindKind}
 use Rattle.kinds.specs.declared.state.Loose.{Loose}
@@ -25,6 +27,16 @@ module _ {A B : Type 0} {x : Outcome A} (f : A → Column B) (others : Column B)
 
   pub behind-kept : {a : A} → x ≡ kept a → behind x f then others ≡ f a then others
   behind-kept e = ap (λ (y : Outcome A). behind y f then others) e
+
+-- groups from a number on: none, or the first one and then the others
+module _ (full : Bool) (s : List ℕ) (r : WireBlock) (group : ℕ) where
+  pub no-groups : groupsFrom full s r 0 group ≡ end ended
+  unfolding groupsFrom
+  no-groups = refl
+
+  pub first-group : (n : ℕ) → groupsFrom full s r (suc n) group ≡ enterRange full s group (groupAt s r group) then groupsFrom full s r n (suc group)
+  unfolding groupsFrom
+  first-group n = refl
 
 -- ---- one kind of elements, and others behind it
 

@@ -5,10 +5,10 @@ use mathlib.Core.Path.{_≡_, refl, sym, ap, _∙_, subst}
 use mathlib.Core.List.{List}
 use mathlib.Core.Bool.{Bool, true, false}
 use native.Mathlib.Omega.{arith}
-use lib.Dec.{leb, ltb}
+use lib.Dec.{leb, ltb, eqb}
 use lib.ListN.{length, take, drop, length-drop}
 use lib.Seq.{length-take-le}
-use borrow.Author.Tests.{leb-true, le-leb, lt-ltb}
+use borrow.Author.Tests.{leb-true, le-leb, lt-ltb, eqb-true}
 use Rattle.protobuf.specs.declared.refusal.Refusal.{Refusal}
 use Rattle.protobuf.specs.declared.refusal.Refusal.the-variants.{Outside}
 use Rattle.protobuf.specs.Stream.{end}
@@ -31,22 +31,22 @@ use Rattle.lookup.specs.declared.by_number.GroupRange.{GroupRange}
 use Rattle.lookup.specs.Lookup.{entryAt, isRecordInside, groupAt}
 use Rattle.lookup.specs.declared.by_number.GroupRange.the-variants as range
 use Rattle.columns.specs.InStep.{startOf}
-use Rattle.columns.specs.Inside.{columnInside, infosInside}
+use Rattle.columns.specs.Inside.{also, columnInside, infosInside}
 use Rattle.columns.proofs.laws.Inside.{also-true}
 use Rattle.columns.proofs.laws.InStep.{start-absent, start-here}
 use Rattle.kinds.specs.declared.state.GroupRangeAt.{GroupRangeAt}
-use Rattle.kinds.specs.declared.state.DenseColumns.{DenseColumns}
 use Rattle.walk.specs.declared.state.DenseNodeIter.{DenseNodeIter}
 use Rattle.walk.specs.declared.turns.Move.{Move}
 use Rattle.walk.specs.State.{groupInside, denseInside}
-use Rattle.walk.specs.Walk.{Found, _then_, behind, messagesOf, fromNodes, fromDense, rowsStart, infosStart, enterDense, enterFound, enterRange, groupsFrom, groupsBehind}
+use Rattle.walk.specs.Walk.{Found, _then_, behind, messagesOf, fromNodes, rowsStart, denseStart, infosStart, enterDense, enterFound, enterRange, groupsFrom, groupsBehind}
 use Rattle.kinds.specs.Said.{columnsInside}
-use Rattle.walk.specs.Moves.{leftFrom, beforeKind, movesTo, movesOut, atDense, atInfos, Quietly}
+use Rattle.walk.specs.Moves.{leftFrom, beforeKind, movesTo, atDense, atInfos, Quietly}
 use Rattle.kinds.specs.declared.state.Loose.the-variants as kind
 use Rattle.walk.specs.declared.state.BlockElementsIter.the-variants as walk
+use Rattle.kinds.proofs.laws.Inside.{both-hold}
 use Rattle.walk.proofs.laws.Inside.{group-below, nodes-before, dense-group}
-use Rattle.walk.proofs.laws.Ahead.{behind-refused, behind-kept}
-use Rattle.walk.proofs.laws.Quiet.{near, quiet-moved, quiet-out}
+use Rattle.walk.proofs.laws.Ahead.{behind-refused, behind-kept, no-groups, first-group}
+use Rattle.walk.proofs.laws.Quiet.{near, quiet-moved}
 
 -- ---- columns at the start of a part
 
@@ -109,32 +109,27 @@ module _ (s : List ℕ) (r : WireBlock) (small : length s < 2 ^ 64) where
       (near r (nodes .of .group) 1 (group-below s r (nodes .of) (dense-group s r nodes inside)) (omega arith)) (behind-kept _ _ e)
 
   -- a dense message that is viewed
-  module _ (of : GroupRangeAt) (message : Part) {v : WireDenseNodes} {columns : DenseColumns} (inside : groupInside s r of ≡ true) (is : columns ≡ record { rows = rowsStart v; keyvals = startOf (v .keyvals) })
+  module _ (of : GroupRangeAt) (message : Part) {v : WireDenseNodes} {nodes : DenseNodeIter} (inside : groupInside s r of ≡ true) (is : nodes ≡ denseStart of message v)
       (e : each (denseNodesAt (message .start)) (viewIn denseNodes s (message .start) (message .len)) ≡ kept v) where
-    abbrev with : DenseColumns → DenseNodeIter
-    with c = record { of = of; message = record { start = message .start; len = message .len }; columns = c }
-
-    pub nodes-inside : denseInside s r (with columns) ≡ true
+    pub nodes-inside : denseInside s r nodes ≡ true
     nodes-inside =
-        also-true inside
+        ap (denseInside s r) is
+        ∙ also-true inside
         (also-true (le-leb _ _ (message-inside s small denseNodesAt denseNodes (message .start) (message .len) e))
-        (ap (columnsInside s) is ∙ dense-started s small (message .start) (message .len) e))
+        (dense-started s small (message .start) (message .len) e))
 
     module _ {full : Bool} where
-      pub enters-dense : {q : Move} → full ≡ false → q ≡ movesTo (walk.DenseNodes (with columns)) → Quietly s r (leftFrom r (of .group)) (atDense full s r of message) q
+      pub enters-dense : {q : Move} → full ≡ false → q ≡ movesTo (walk.DenseNodes nodes) → Quietly s r (leftFrom r (of .group)) (atDense full s r of message) q
       enters-dense plain to =
-          quiet-moved s r (walk.DenseNodes (with columns)) to nodes-inside (near r (of .group) 1 (group-below s r of inside) (omega arith))
-          (ap (λ (b : Bool). atDense b s r of message) plain
-          ∙ behind-kept (enterDense false s of message) (groupsBehind false s r of) e
-          ∙ ap (λ (c : DenseColumns). fromDense s (with c) then groupsBehind false s r of) (sym is))
+          quiet-moved s r (walk.DenseNodes (denseStart of message v)) (to ∙ ap (λ (d : DenseNodeIter). movesTo (walk.DenseNodes d)) is) (sym (ap (denseInside s r) is) ∙ nodes-inside)
+          (near r (of .group) 1 (group-below s r of inside) (omega arith))
+          (ap (λ (b : Bool). atDense b s r of message) plain ∙ behind-kept (enterDense false s of message) (groupsBehind false s r of) e)
 
-      pub enters-full : {q : Move} → full ≡ true → Quietly s r (leftFrom r (of .group)) (atInfos s r (with columns) (v .info)) q → Quietly s r (leftFrom r (of .group)) (atDense full s r of message) q
+      pub enters-full : {q : Move} → full ≡ true → Quietly s r (leftFrom r (nodes .of .group)) (atInfos s r nodes (v .info)) q → Quietly s r (leftFrom r (of .group)) (atDense full s r of message) q
       enters-full {q} metadata h =
           subst (λ (c : Column Found). Quietly s r (leftFrom r (of .group)) c q)
-          (ap (λ (c : DenseColumns). atInfos s r (with c) (v .info)) is
-          ∙ sym (behind-kept (enterDense true s of message) (groupsBehind true s r of) e)
-          ∙ ap (λ (b : Bool). atDense b s r of message) (sym metadata))
-          h
+          (sym (behind-kept (enterDense true s of message) (groupsBehind true s r of) e) ∙ ap (λ (b : Bool). atDense b s r of message) (sym metadata))
+          (subst (λ (d : DenseNodeIter). Quietly s r (leftFrom r (d .of .group)) (atInfos s r d (v .info)) q) is h)
 
 -- ---- into a group
 
@@ -155,17 +150,14 @@ module _ (s : List ℕ) (r : WireBlock) where
     abbrev rangeOf : Part → GroupRangeAt
     rangeOf p = record { group = group; start = p .start; len = p .len }
 
-    none-left : r .groups ≤ group → from ≡ end ended
-    unfolding groupsFrom
-    none-left h = let none : r .groups - group ≡ 0 = omega arith in ap (λ (n : ℕ). groupsFrom full s r n group) none
-
-    pub no-group : {q : Move} → r .groups ≤ group → q ≡ movesOut → Quietly s r (leftFrom r group) from q
-    no-group h is = quiet-out s r is (none-left h)
+    pub none-left : r .groups ≤ group → from ≡ end ended
+    none-left h = let none : r .groups - group ≡ 0 = omega arith in ap (λ (n : ℕ). groupsFrom full s r n group) none ∙ no-groups full s r group
 
     module _ (below : group < r .groups) where
       one-group : from ≡ enterRange full s group (groupAt s r group) then groupsFrom full s r (r .groups - suc group) (suc group)
-      unfolding groupsFrom
-      one-group = let one : r .groups - group ≡ suc (r .groups - suc group) = omega arith in ap (λ (n : ℕ). groupsFrom full s r n group) one
+      one-group =
+          let one : r .groups - group ≡ suc (r .groups - suc group) = omega arith in
+          ap (λ (n : ℕ). groupsFrom full s r n group) one ∙ first-group full s r group (r .groups - suc group)
 
       pub no-range : {n : Refusal} → groupAt s r group ≡ range.Refused n → from ≡ end (cut n)
       unfolding _then_
@@ -182,19 +174,29 @@ module _ (s : List ℕ) (r : WireBlock) where
         no-pass g = in-range ∙ behind-refused (enterFound full s (rangeOf p)) (groupsBehind full s r (rangeOf p)) g
 
         module _ {message : Part} (g : each (moved (p .start)) (denseIn s (p .start) (p .len)) ≡ kept message) where
-          passed : from ≡ enterFound full s (rangeOf p) message then groupsBehind full s r (rangeOf p)
+          pub passed : from ≡ enterFound full s (rangeOf p) message then groupsBehind full s r (rangeOf p)
           passed = in-range ∙ behind-kept (enterFound full s (rangeOf p)) (groupsBehind full s r (rangeOf p)) g
 
-          by-presence : {b : Bool} → message .present ≡ b → from
-              ≡ choose b (behind (each (denseNodesAt (message .start)) (viewIn denseNodes s (message .start) (message .len))) (enterDense full s (rangeOf p) message)) (fromNodes s (messagesOf full (rangeOf p) kind.Nodes))
-              then groupsBehind full s r (rangeOf p)
-          by-presence h =
-              passed
-              ∙ ap (λ (b : Bool). choose b (behind (each (denseNodesAt (message .start)) (viewIn denseNodes s (message .start) (message .len))) (enterDense full s (rangeOf p) message)) (fromNodes s (messagesOf full (rangeOf p) kind.Nodes)) then groupsBehind full s r (rangeOf p)) h
+  -- ---- by its dense message
 
-          pub with-dense : {q : Move} → message .present ≡ true → Quietly s r (leftFrom r group) (atDense full s r (rangeOf p) message) q → Quietly s r (leftFrom r group) from q
-          with-dense {q} h k = subst (λ (c : Column Found). Quietly s r (leftFrom r group) c q) (sym (by-presence h)) k
+  module _ (of : GroupRangeAt) (group : ℕ) (stands : also (groupInside s r of) (eqb (of .group) group) ≡ true) where
+    pub entry-inside : groupInside s r of ≡ true
+    entry-inside = both-hold (groupInside s r of) _ stands .0
 
-          pub without-dense : {q : Move} → message .present ≡ false → q ≡ movesTo (beforeKind full (rangeOf p) kind.Nodes) → Quietly s r (leftFrom r group) from q
-          without-dense h is =
-              quiet-moved s r (beforeKind full (rangeOf p) kind.Nodes) is (nodes-before s r full (rangeOf p) range-stands) (near r group 2 below (omega arith)) (by-presence h)
+    numbered : of .group ≡ group
+    numbered = eqb-true _ _ (both-hold (groupInside s r of) _ stands .1)
+
+    module _ (full : Bool) (message : Part) {c : Column Found} (is : c ≡ enterFound full s of message then groupsBehind full s r of) where
+      by-presence : {b : Bool} → message .present ≡ b → c
+          ≡ choose b (behind (each (denseNodesAt (message .start)) (viewIn denseNodes s (message .start) (message .len))) (enterDense full s of message)) (fromNodes s (messagesOf full of kind.Nodes)) then groupsBehind full s r of
+      by-presence h =
+          is
+          ∙ ap (λ (b : Bool). choose b (behind (each (denseNodesAt (message .start)) (viewIn denseNodes s (message .start) (message .len))) (enterDense full s of message)) (fromNodes s (messagesOf full of kind.Nodes)) then groupsBehind full s r of) h
+
+      pub with-dense : {q : Move} → message .present ≡ true → Quietly s r (leftFrom r (of .group)) (atDense full s r of message) q → Quietly s r (leftFrom r group) c q
+      with-dense {q} h k = subst (λ (n : ℕ). Quietly s r (leftFrom r n) c q) numbered (subst (λ (x : Column Found). Quietly s r (leftFrom r (of .group)) x q) (sym (by-presence h)) k)
+
+      pub without-dense : {q : Move} → message .present ≡ false → q ≡ movesTo (beforeKind full of kind.Nodes) → Quietly s r (leftFrom r group) c q
+      without-dense {q} h to =
+          subst (λ (n : ℕ). Quietly s r (leftFrom r n) c q) numbered
+          (quiet-moved s r (beforeKind full of kind.Nodes) to (nodes-before s r full of entry-inside) (near r (of .group) 2 (group-below s r of entry-inside) (omega arith)) (by-presence h))

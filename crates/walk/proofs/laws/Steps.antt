@@ -22,10 +22,10 @@ use Rattle.walk.specs.declared.state.DenseNodeIter.{DenseNodeIter}
 use Rattle.walk.specs.declared.state.BlockElementsIter.{BlockElementsIter}
 use Rattle.walk.specs.declared.turns.Move.{Move}
 use Rattle.walk.specs.State.{groupInside, denseInside, stateInside}
-use Rattle.walk.specs.Walk.{partOf, elementsBy}
+use Rattle.walk.specs.Walk.{elementsBy}
 use Rattle.kinds.specs.Said.{columnsInside, atPlace, looseSaid, fullDenseSaid, fullStepInside}
 use Rattle.walk.specs.Said.{denseElement}
-use Rattle.walk.specs.Moves.{beforeKind, movesTo, movesRefused, movesWith, Quietly, left, behindKind}
+use Rattle.walk.specs.Moves.{beforeKind, movesTo, movesRefused, fullSaidBy, messageSaidBy, Quietly, left, behindKind}
 use Rattle.walk.specs.declared.state.FullDenseNodeIter.{FullDenseNodeIter}
 use Rattle.kinds.specs.Dense.{fullDenseAhead}
 use Rattle.kinds.specs.declared.state.Messages.{Messages}
@@ -66,12 +66,11 @@ module _ (s : List ℕ) (r : WireBlock) (tables : isRecordInside s r ≡ true) w
     abbrev behind : DenseColumns → InfoColumns → BlockElementsIter
     behind next others = walk.FullDenseNodes (record { nodes = record { of = nodes .of; message = nodes .message; columns = next }; infos = others })
 
-    pub full-says : (next : DenseColumns) (others : InfoColumns) (info : NodeInfo) {p : Part} {e : Element} {q : Move} → p ≡ partOf (nodes .message) → e ≡ denseElement (next .rows) (nodes .columns .keyvals) info
-        → q ≡ movesWith (nodes .of .group) p e (behind next others)
+    pub full-says : (next : DenseColumns) (others : InfoColumns) (info : NodeInfo) {q : Move} → q ≡ fullSaidBy d info next others
         → fullStepInside s (full.Node info next others) ≡ true → fullDenseAhead s (nodes .columns) (d .infos) ≡ fullDenseSaid s (nodes .columns) (full.Node info next others) → MovesFull q
-    full-says next others info {e = e} at is with-it h k =
+    full-says next others info with-it h k =
         let split = both-hold (columnsInside s next) _ h in
-        quiet-one s r tables e (behind next others) at (ap (itemOf s) is) (also-true (dense-next s r nodes nodes-in next (split .0)) (split .1)) (group-more _ _ _ k) with-it
+        quiet-one s r tables (denseElement (next .rows) (nodes .columns .keyvals) info) (behind next others) refl refl (also-true (dense-next s r nodes nodes-in next (split .0)) (split .1)) (group-more _ _ _ k) with-it
 
   -- messages
   module _ (m : Messages) (inside : stateInside s r (walk.Messages m) ≡ true) where
@@ -96,7 +95,7 @@ module _ (s : List ℕ) (r : WireBlock) (tables : isRecordInside s r ≡ true) w
         let below = group-below s r (m .of) messages-group in
         quiet-moved s r (behindKind (m .full) (m .of) (m .kind)) is (behind-inside s r (m .full) (m .of) below (m .kind) messages-group) (behind-near s r (m .full) (m .of) below (m .kind)) (kind-ended s r m (m .kind) (sym from-here ∙ e))
 
-    pub messages-say : (message : Part) (e : Element) (at : ℕ) {q : Move} → q ≡ movesWith (m .of .group) message e (walk.Messages (atPlace m at))
+    pub messages-say : (message : Part) (e : Element) (at : ℕ) {q : Move} → q ≡ messageSaidBy m message e at
         → leb at (m .of .len) ≡ true → looseFrom s m ≡ looseSaid s m (loose.Found message e at) → Moves q
     messages-say message e at with-it h k =
         quiet-one s r tables e (walk.Messages (atPlace m at)) refl refl (also-true messages-group h) (kind-more s r m (m .kind) at (sym from-here ∙ k ∙ ap (more (record { message = message; item = itemOf s e })) (from-place at h))) with-it

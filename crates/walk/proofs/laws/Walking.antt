@@ -3,7 +3,7 @@
 use Prim.Native.Nat.{ℕ, _<_}
 use mathlib.Core.Path.{_≡_, refl, sym, ap, _∙_, subst}
 use mathlib.Core.List.{List, [], _∷_}
-use mathlib.Core.Bool.{true, false}
+use mathlib.Core.Bool.{Bool, true, false}
 use mathlib.Core.Logic.{⊎-elim}
 use native.Mathlib.Omega.{arith}
 use lib.Dec.{ltb}
@@ -20,8 +20,6 @@ use Rattle.elements.specs.declared.element.NodeInfo.the-variants as node
 use Rattle.kinds.specs.declared.state.DenseColumns.{DenseColumns}
 use Rattle.walk.specs.declared.state.DenseNodeIter.{DenseNodeIter}
 use Rattle.walk.specs.declared.state.BlockElementsIter.{BlockElementsIter}
-use Rattle.walk.specs.declared.turns.Turn.{Turn}
-use Rattle.walk.specs.declared.turns.Turn.the-variants as turn
 use Rattle.walk.specs.declared.turns.Move.{Move}
 use Rattle.walk.specs.State.{groupInside, stateInside}
 use Rattle.walk.specs.Walk.{elementsBy, elementsFrom, testedFrom, saidThen, elementSaid, behindSaid, elementBehind}
@@ -29,7 +27,6 @@ use Rattle.kinds.specs.Said.{columnsInside}
 use Rattle.walk.specs.Said.{denseElement, denseSaidBy}
 use Rattle.walk.specs.Moves.{beforeKind, movesTo, movesOut, turnSaid, turnOn, turnBehind, turnsWithin, Turns, left, refusedStep}
 use Rattle.kinds.specs.Dense.{denseAhead, denseSaid}
-use Rattle.walk.specs.declared.block_elements.Said.{Said}
 use Rattle.walk.specs.declared.block_elements.ElementStep.{ElementStep}
 use Rattle.kinds.specs.declared.state.Loose.the-variants as kind
 use Rattle.walk.specs.declared.state.BlockElementsIter.the-variants as walk
@@ -53,19 +50,19 @@ module _ {s : List ℕ} {r : WireBlock} where
 
   module _ {from here : BlockElementsIter} (w : Walking s r from here) {q : Move} (k : Turns s r here q) where
     -- a turn that says something is the step
-    pub turn-says : {e : Said} → q .turn ≡ turn.Says e → (saidThen s r e (q .next) ≡ elementsBy s r from) × (behindSaid e (q .next) ≡ walk.Ended)
-    turn-says g = (sym (ap (λ (t : Turn). turnSaid s r t (q .next)) g) ∙ k .says ∙ sym (w .so), sym (ap (λ (t : Turn). turnBehind t (q .next)) g) ∙ k .behind)
+    pub turn-says : q .quiet ≡ false → (saidThen s r (q .said) (q .next) ≡ elementsBy s r from) × (behindSaid (q .said) (q .next) ≡ walk.Ended)
+    turn-says g = (sym (ap (λ (b : Bool). turnSaid s r b (q .said) (q .next)) g) ∙ k .says ∙ sym (w .so), sym (ap (λ (b : Bool). turnBehind b (q .said) (q .next)) g) ∙ k .behind)
 
     -- any state but plain dense nodes comes nearer
-    module _ (moves : turnsWithin r here ≡ left r here) (g : q .turn ≡ turn.Moves) where
+    module _ (moves : turnsWithin r here ≡ left r here) (g : q .quiet ≡ true) where
       tests : (stateInside s r (q .next) ≡ true) × (ltb (left r (q .next)) (turnsWithin r here) ≡ true)
-      tests = both-hold (stateInside s r (q .next)) _ (sym (ap (λ (t : Turn). turnOn s r (turnsWithin r here) t (q .next)) g) ∙ k .on)
+      tests = both-hold (stateInside s r (q .next)) _ (sym (ap (λ (b : Bool). turnOn s r (turnsWithin r here) b (q .next)) g) ∙ k .on)
 
       pub turn-nearer : left r (q .next) < left r here
       turn-nearer = omega (arith, moves, ltb-true (left r (q .next)) (turnsWithin r here) (tests .1))
 
       pub turn-on : Walking s r from (q .next)
-      turn-on = record { so = w .so ∙ sym (k .says) ∙ ap (λ (t : Turn). turnSaid s r t (q .next)) g; inside = tests .0 }
+      turn-on = record { so = w .so ∙ sym (k .says) ∙ ap (λ (b : Bool). turnSaid s r b (q .said) (q .next)) g; inside = tests .0 }
 
 -- ---- plain dense nodes
 

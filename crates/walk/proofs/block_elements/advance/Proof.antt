@@ -54,20 +54,20 @@ turn-requires c κs = let l = c .before in (l .before .before .pre .0, l .loop .
 
 loop-less-2 : tie.Need-loop-less-2 Inv-loop μ-loop
 loop-less-2 c =
-    let m = c .before .before in
+    let m = c .before in
     let k = m .before in
-    turn-nearer (k .before .loop .inv) (m .turn .ensures) (not-dense _ (k .before .loop .state) (k .match .keys2)) (c .enum-told2 .given .1)
+    turn-nearer (k .before .loop .inv) (m .turn .ensures) (not-dense _ (k .before .loop .state) (k .match .keys2)) (c .if1 .taken)
 
 loop-again-2 : tie.Need-loop-again-2 Inv-loop μ-loop
 loop-again-2 c =
-    let m = c .before .before in
+    let m = c .before in
     let k = m .before in
-    turn-on (k .before .loop .inv) (m .turn .ensures) (not-dense _ (k .before .loop .state) (k .match .keys2)) (c .enum-told2 .given .1)
+    turn-on (k .before .loop .inv) (m .turn .ensures) (not-dense _ (k .before .loop .state) (k .match .keys2)) (c .if1 .taken)
 
 returns-3 : tie.Need-returns-3 Inv-loop μ-loop
 returns-3 c =
-    let m = c .before .before .before in
-    turn-says (m .before .before .loop .inv) (m .turn .ensures) (c .before .turned .given .1)
+    let m = c .before in
+    turn-says (m .before .before .loop .inv) (m .turn .ensures) (c .if1 .left)
 
 pub advance-spec : {M : Type 1} → statement M
 advance-spec =
@@ -89,8 +89,6 @@ advance-spec =
     (λ c κs. search needs)
     returns-2
     turn-requires
-    (λ c. search needs)
     loop-less-2
     loop-again-2
-    (λ c. search needs)
     returns-3)

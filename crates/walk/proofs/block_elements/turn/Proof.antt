@@ -1,16 +1,10 @@
 -- `turn` goes by the state: each arm is the move of its own kind.
 use borrow.Author.Needs.{needs}
-use borrow.Author.Tests.{leb-true}
 use mathlib.Core.Path.{sym, ap, _∙_}
 use Rattle.walk.specs.State.{stateInside}
 use Rattle.walk.proofs.laws.Walking.{turns-as, turns-out, turns-here}
 use Rattle.walk.proofs.block_elements.turn.Statement.{statement}
 use Rattle.walk.proofs.block_elements.turn.Tie as tie
-
-enter-requires : tie.Need-enter-requires
-enter-requires c κs =
-    let e = c .before .before .before .before in
-    (e .pre .0, leb-true _ _ (sym (ap (stateInside (e .args .buffer .now) (e .args .block)) (c .before .state .given .1)) ∙ e .pre .1))
 
 walk-full-dense-requires : tie.Need-walk-full-dense-requires
 walk-full-dense-requires c κs =
@@ -58,7 +52,7 @@ turn-spec =
     (λ c κs. search needs)
     returns
     (λ c. search needs)
-    enter-requires
+    (λ c κs. search needs)
     returns-2
     (λ c. search needs)
     (λ c κs. search needs)

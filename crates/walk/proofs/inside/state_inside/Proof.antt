@@ -1,58 +1,39 @@
 -- `state_inside` makes the tests of the state's kind.
 use borrow.Author.Needs.{needs}
-use mathlib.Core.Path.{refl, sym, ap, _∙_}
+use mathlib.Core.Path.{sym, ap, _∙_}
 use denote.Ref.{now}
-use Rattle.fields.proofs.laws.Part.{refuted, confirmed}
 use Rattle.walk.specs.State.{stateInside}
-use Rattle.walk.proofs.laws.Inside.{first-fails, first-holds}
 use Rattle.walk.proofs.inside.state_inside.Statement.{statement}
 use Rattle.walk.proofs.inside.state_inside.Tie as tie
 
 returns : tie.Need-returns
 returns c =
-    let b = c .before in
-    let s = b .before .before in
-    let a = s .before .before .before .args in
-    first-fails _ (refuted (b .dense-inside2 .ensures) (c .if1 .taken)) ∙ ap (stateInside (now (a .buffer)) (a .block)) (sym (s .state3 .given .1))
-
-returns-2 : tie.Need-returns-2
-returns-2 c =
-    let b = c .before in
-    let s = b .before .before in
-    let a = s .before .before .before .args in
-    first-fails _ (refuted (b .group-inside .ensures) (c .if2 .taken)) ∙ ap (stateInside (now (a .buffer)) (a .block)) (sym (s .state4 .given .1))
-
-returns-3 : tie.Need-returns-3
-returns-3 c =
     let a = c .before .before .before .args in
     ap (stateInside (now (a .buffer)) (a .block)) (sym (c .enum-told .given .1))
 
-returns-4 : tie.Need-returns-4
-returns-4 c =
+returns-2 : tie.Need-returns-2
+returns-2 c =
     let s = c .before .before .before in
     let a = s .before .before .before .args in
     ap (stateInside (now (a .buffer)) (a .block)) (sym (s .state .given .1))
+
+returns-3 : tie.Need-returns-3
+returns-3 c =
+    let s = c .before .before in
+    let a = s .before .before .before .args in
+    c .dense-inside .ensures ∙ ap (stateInside (now (a .buffer)) (a .block)) (sym (s .state2 .given .1))
+
+returns-4 : tie.Need-returns-4
+returns-4 c =
+    let s = c .before .before in
+    let a = s .before .before .before .args in
+    c .full-inside .ensures ∙ ap (stateInside (now (a .buffer)) (a .block)) (sym (s .state3 .given .1))
 
 returns-5 : tie.Need-returns-5
 returns-5 c =
     let s = c .before .before in
     let a = s .before .before .before .args in
-    c .dense-inside .ensures ∙ ap (stateInside (now (a .buffer)) (a .block)) (sym (s .state2 .given .1))
-
-returns-6 : tie.Need-returns-6
-returns-6 c =
-    let b = c .before .before in
-    let s = b .before .before in
-    let a = s .before .before .before .args in
-    first-holds (confirmed (b .dense-inside2 .ensures) (c .before .if1 .left)) (c .are-infos-inside .ensures)
-    ∙ ap (stateInside (now (a .buffer)) (a .block)) (sym (s .state3 .given .1))
-
-returns-7 : tie.Need-returns-7
-returns-7 c =
-    let b = c .before .before in
-    let s = b .before .before in
-    let a = s .before .before .before .args in
-    first-holds (confirmed (b .group-inside .ensures) (c .before .if2 .left)) refl ∙ ap (stateInside (now (a .buffer)) (a .block)) (sym (s .state4 .given .1))
+    c .messages-inside .ensures ∙ ap (stateInside (now (a .buffer)) (a .block)) (sym (s .state4 .given .1))
 
 pub state-inside-spec : {M : Type 1} → statement M
 state-inside-spec =
@@ -64,13 +45,10 @@ state-inside-spec =
     (λ c κs. search needs)
     (λ c. search needs)
     (λ c κs. search needs)
-    returns
-    (λ c κs. search needs)
     (λ c. search needs)
     (λ c κs. search needs)
+    returns
     returns-2
     returns-3
     returns-4
-    returns-5
-    returns-6
-    returns-7)
+    returns-5)

@@ -14,7 +14,7 @@ enter-infos-requires c κs =
     let p = k .before .before .before in
     let e = p .before .before in
     let a = e .args in
-    nodes-inside (a .buffer .now) (a .block) (e .good .0 .0) (a .of) (a .message) (e .pre) (c .before .start-columns .ensures) (says parsedDenseNodes (p .parse .ensures) (k .before .p2 .given .1))
+    nodes-inside (a .buffer .now) (a .block) (e .good .0 .0) (a .of) (a .message) (e .pre) (c .before .start-nodes .ensures) (says parsedDenseNodes (p .parse .ensures) (k .before .p2 .given .1))
 
 returns : tie.Need-returns
 returns c =
@@ -28,7 +28,7 @@ returns-2 c =
     let p = k .before .before .before in
     let e = p .before .before in
     let a = e .args in
-    enters-full (a .buffer .now) (a .block) (e .good .0 .0) (a .of) (a .message) (e .pre) (t .before .start-columns .ensures) (says parsedDenseNodes (p .parse .ensures) (k .before .p2 .given .1)) (t .if1 .taken) (c .enter-infos .ensures)
+    enters-full (a .buffer .now) (a .block) (e .good .0 .0) (a .of) (a .message) (e .pre) (t .before .start-nodes .ensures) (says parsedDenseNodes (p .parse .ensures) (k .before .p2 .given .1)) (t .if1 .taken) (c .enter-infos .ensures)
 
 returns-3 : tie.Need-returns-3
 returns-3 c =
@@ -37,7 +37,7 @@ returns-3 c =
     let p = k .before .before .before in
     let e = p .before .before in
     let a = e .args in
-    enters-dense (a .buffer .now) (a .block) (e .good .0 .0) (a .of) (a .message) (e .pre) (t .before .start-columns .ensures) (says parsedDenseNodes (p .parse .ensures) (k .before .p2 .given .1)) (t .if1 .left) (c .move-to .ensures)
+    enters-dense (a .buffer .now) (a .block) (e .good .0 .0) (a .of) (a .message) (e .pre) (t .before .start-nodes .ensures) (says parsedDenseNodes (p .parse .ensures) (k .before .p2 .given .1)) (t .if1 .left) (c .move-to .ensures)
 
 pub enter-dense-spec : {M : Type 1} → statement M
 enter-dense-spec =

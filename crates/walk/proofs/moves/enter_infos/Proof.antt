@@ -1,10 +1,7 @@
 -- `enter_infos` views the DenseInfo and starts its columns.
 use borrow.Author.Needs.{needs}
-use mathlib.Core.Path.{ap, _∙_}
 use Rattle.protobuf.proofs.laws.Read.{says}
 use Rattle.views.specs.DenseInfo.{parsedDenseInfo}
-use Rattle.walk.specs.declared.state.BlockElementsIter.the-variants as walk
-use Rattle.walk.specs.Moves.{movesTo}
 use Rattle.walk.proofs.laws.Ahead.{behind-refused}
 use Rattle.walk.proofs.laws.Quiet.{quiet-refused}
 use Rattle.walk.proofs.laws.Enter.{enters-infos}
@@ -18,12 +15,11 @@ returns c =
 
 returns-2 : tie.Need-returns-2
 returns-2 c =
-    let i = c .before in
-    let k = i .before in
+    let k = c .before in
     let p = k .before .before .before in
     let e = p .before .before in
     let a = e .args in
-    enters-infos (a .buffer .now) (a .block) (e .good .0 .0) (a .nodes) (a .info) (e .pre) (c .move-to .ensures ∙ ap (λ infos. movesTo (walk.FullDenseNodes (record { nodes = a .nodes; infos = infos }))) (i .start-infos .ensures)) (says parsedDenseInfo (p .parse .ensures) (k .before .q2 .given .1))
+    enters-infos (a .buffer .now) (a .block) (e .good .0 .0) (a .nodes) (a .info) (e .pre) (c .begin-infos .ensures) (says parsedDenseInfo (p .parse .ensures) (k .before .q2 .given .1))
 
 pub enter-infos-spec : {M : Type 1} → statement M
 enter-infos-spec =
@@ -34,6 +30,5 @@ enter-infos-spec =
     (λ c κs. search needs)
     returns
     (λ c. search needs)
-    (λ c κs. search needs)
     (λ c κs. search needs)
     returns-2)

@@ -3,7 +3,6 @@ use borrow.Author.Needs.{needs}
 use mathlib.Core.Path.{sym, ap, _∙_}
 use Rattle.protobuf.proofs.laws.Read.{says}
 use Rattle.kinds.specs.Said.{fullDenseSaid, fullStepInside}
-use Rattle.walk.specs.Moves.{movesTo}
 use Rattle.walk.proofs.laws.Steps.{infos-in, full-refuses, full-moves, full-says}
 use Rattle.walk.proofs.steps.walk_full_dense.Statement.{statement}
 use Rattle.walk.proofs.steps.walk_full_dense.Tie as tie
@@ -17,20 +16,17 @@ returns c =
 
 returns-2 : tie.Need-returns-2
 returns-2 c =
-    let m = c .before in
-    let k = m .before in
+    let k = c .before in
     let n = k .before .before in
     let e = n .before .before in
-    full-moves (e .args .buffer .now) (e .args .block) (e .pre .0) (e .args .d) (e .pre .1) (c .move-to .ensures ∙ ap movesTo (m .messages-of .ensures)) (says (fullDenseSaid _ _) (n .next-full-dense .ensures .0) (k .enum-told .given .1))
+    full-moves (e .args .buffer .now) (e .args .block) (e .pre .0) (e .args .d) (e .pre .1) (c .begin-kind .ensures) (says (fullDenseSaid _ _) (n .next-full-dense .ensures .0) (k .enum-told .given .1))
 
 returns-3 : tie.Need-returns-3
 returns-3 c =
-    let p = c .before in
-    let b = p .before .before in
-    let k = b .before in
+    let k = c .before in
     let n = k .before .before .before in
     let e = n .before .before in
-    full-says (e .args .buffer .now) (e .args .block) (e .pre .0) (e .args .d) (e .pre .1) _ _ _ (p .part-of .ensures) (b .dense-element .ensures) (c .move-with .ensures) (sym (ap (fullStepInside _) (k .before .r2 .given .1)) ∙ n .next-full-dense .ensures .1 (infos-in (e .args .buffer .now) (e .args .block) (e .pre .0) (e .args .d) (e .pre .1)))
+    full-says (e .args .buffer .now) (e .args .block) (e .pre .0) (e .args .d) (e .pre .1) _ _ _ (c .say-full .ensures) (sym (ap (fullStepInside _) (k .before .r2 .given .1)) ∙ n .next-full-dense .ensures .1 (infos-in (e .args .buffer .now) (e .args .block) (e .pre .0) (e .args .d) (e .pre .1)))
     (says (fullDenseSaid _ _) (n .next-full-dense .ensures .0) (k .before .r2 .given .1))
 
 pub walk-full-dense-spec : {M : Type 1} → statement M
@@ -43,10 +39,7 @@ walk-full-dense-spec =
     returns
     (λ c. search needs)
     (λ c κs. search needs)
-    (λ c κs. search needs)
     returns-2
     (λ c. search needs)
-    (λ c κs. search needs)
-    (λ c κs. search needs)
     (λ c κs. search needs)
     returns-3)

@@ -36,7 +36,7 @@ returns-3 c =
     let k = c .before in
     let n = k .before .before .before in
     let e = n .before .before in
-    messages-say (e .args .buffer .now) (e .args .block) (e .pre .0) (e .args .m) (e .pre .1) _ _ _ (c .move-with .ensures) (sym (ap (placeInside _) (k .before .r2 .given .1)) ∙ n .next-loose .ensures .1)
+    messages-say (e .args .buffer .now) (e .args .block) (e .pre .0) (e .args .m) (e .pre .1) _ _ _ (c .say-message .ensures) (sym (ap (placeInside _) (k .before .r2 .given .1)) ∙ n .next-loose .ensures .1)
     (says (looseSaid _ _) (n .next-loose .ensures .0) (k .before .r2 .given .1))
 
 pub walk-messages-spec : {M : Type 1} → statement M
