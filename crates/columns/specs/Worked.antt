@@ -1,7 +1,7 @@
 -- Worked values: what the definitions here say of concrete bytes and columns, one row for each clause of document 01, section 3, that they
 -- carry. They are proved by computing, so a definition that is changed breaks the row of its clause, whatever the code does. Bytes are
 -- hexadecimal.
-use Prim.Native.Nat.{ℕ, _+_, _-_, _^_}
+use Prim.Native.Nat.{ℕ, _+_, _-_, _*_, _^_}
 use mathlib.Core.Path.{_≡_, refl}
 use mathlib.Core.List.{List, [], _∷_}
 use mathlib.Core.Bool.{true, false}
@@ -25,7 +25,7 @@ use Rattle.columns.specs.declared.keys_vals.Behind.the-variants as behin
 use Rattle.columns.specs.InStep.{saidBy, inStep, ahead, startOf, readBy}
 use Rattle.columns.specs.Inside.{columnInside, tagsInside, membersInside, rowsInside, infosInside, tagInside, behindInside, infoInside}
 use Rattle.columns.specs.KeysVals.{pair, done, stopped, nextTag, tagSaid}
-use Rattle.columns.specs.Zip.{both, zip, sum64Ahead, sum64Said, sum32Ahead, sum32Said, tagsAhead, tagsSaid, membersAhead, membersSaid, rowsAhead, rowsSaid, infosAhead, infoSaid}
+use Rattle.columns.specs.Zip.{both, zip, sum64Ahead, sum64Said, movedSum, sum32Ahead, sum32Said, tagsAhead, tagsSaid, membersAhead, membersSaid, rowsAhead, rowsSaid, infosAhead, infoSaid}
 
 -- a column of these values and this end
 abbrev ending : {A : Type 0} → List A → ColumnEnd → Column A
@@ -147,6 +147,7 @@ pub record Columns : Type 0 where
   pub sums-at-32 : sum32Ahead bytes (summing32 0 1 (2 ^ 31 - 1)) ≡ ending (negsuc (2 ^ 31 - 1) ∷ []) ended
   pub difference-at-64 : sum64Ahead long (summing 0 5 0) ≡ ending (pos (2 ^ 31 + 1) ∷ []) ended
   pub difference-at-32 : sum32Ahead long (summing32 0 5 0) ≡ ending (pos 1 ∷ []) ended
+  pub moved : movedSum (summing 2 9 5) (16 * 4 + 2) ≡ summing 4 9 7
   pub sum-said : sum64Said bytes (record { told = told.Value; next = summing 1 3 6 }) ≡ ending (pos 6 ∷ pos 8 ∷ pos 7 ∷ []) ended
   pub sum32-said : sum32Said bytes (record { told = told.Value; next = summing32 1 3 6 }) ≡ ending (pos 6 ∷ pos 8 ∷ pos 7 ∷ []) ended
   pub key-cut : tagsAhead long (record { keys = place 0 5; vals = place 5 6 }) ≡ ending (both 2 7 ∷ []) ended
@@ -169,6 +170,7 @@ columns-worked =
       sums-at-32 = refl;
       difference-at-64 = refl;
       difference-at-32 = refl;
+      moved = refl;
       sum-said = refl;
       sum32-said = refl;
       key-cut = refl;

@@ -48,7 +48,7 @@ use Rattle.kinds.specs.declared.messages.LooseStep.{LooseStep}
 use Rattle.kinds.specs.declared.messages.LooseStep.the-variants as loose
 use Rattle.kinds.specs.Dense.{nodesOf, denseAhead, fullDenseAhead, denseSaid}
 use Rattle.kinds.specs.Loose.{Placed, nodeIn, wayIn, relationIn, viewedAll, looseFrom}
-use Rattle.kinds.specs.Said.{looseSaid, placeInside, denseStepInside, fullDenseSaid, fullStepInside}
+use Rattle.kinds.specs.Said.{looseSaid, placeInside, denseStepInside, isEnd, fullDenseSaid, fullStepInside}
 
 -- a stream of these items and this end
 abbrev ending : {A : Type 0} → List A → ColumnEnd → Column A
@@ -358,6 +358,8 @@ pub record LooseElements : Type 0 where
   pub no-message-said : looseSaid group (among false kind.Nodes 0) loose.Ended ≡ end ended
   pub refusal-said : looseSaid group (among false kind.Nodes 0) (loose.Refused SecondColumn) ≡ end (cut SecondColumn)
   pub place-at-the-end : placeInside (among false kind.Nodes 0) (found 42) ≡ true
+  pub an-end : isEnd {A = ℕ} (end ended) ≡ true
+  pub no-end : isEnd {A = ℕ} (more 1 (end ended)) ≡ false
   pub place-behind-the-end : placeInside (among false kind.Nodes 0) (found 43) ≡ false
 
 pub loose-worked : LooseElements
@@ -388,5 +390,7 @@ loose-worked =
       no-message-said = refl;
       refusal-said = refl;
       place-at-the-end = refl;
+      an-end = refl;
+      no-end = refl;
       place-behind-the-end = refl;
     }

@@ -179,8 +179,8 @@ pub fn next_node(buffer: &[u8], columns: DenseColumns) -> NextNode
                 lons: move_sum(rows.lons, lon),
             },
             keyvals: Column {
-                at: keyvals.at + 1,
-                end: keyvals.end,
+                at: columns.keyvals.at + 1,
+                end: columns.keyvals.end,
             },
         },
     }

@@ -1,7 +1,7 @@
 -- Worked values: every clause of document 01, section 1, and of the Protocol Buffers text beside it, that speaks of payloads, skipped groups and
 -- messages, at concrete bytes. They are proved by computing the definitions, so a definition that says something else does not pass, however
 -- the code and the laws are changed with it. Bytes are hexadecimal.
-use Prim.Native.Nat.{ℕ, zero, suc}
+use Prim.Native.Nat.{ℕ, zero, suc, _+_, _*_}
 use mathlib.Core.Path.{_≡_, refl}
 use mathlib.Core.List.{List, [], _∷_, _++_}
 use lib.ListN.{replicate}
@@ -140,6 +140,8 @@ pub record Said : Type 0 where
   pub a-payload : A.payloadOf (payload-answer.Taken 2 3 4 7) ≡ taken (payloadOf 2 3 4) 7
   pub a-field : fieldOf (field-answer.Read 0x8A 2 3 4 7) ≡ item (record { tag = tagBy 17 2; payload = payloadOf 2 3 4 }) 7
   pub a-spoilt-field : fieldOf (field-answer.Spoilt 0x8A PastEnd) ≡ last (spoilt (tagBy 17 2) PastEnd)
+  pub a-number's-word : A.fieldIn (128 * (16 * 5 + 1) + 0x08) 2 ≡ item (fieldBy 0x08 5 3 1) 4
+  pub a-length's-word : A.fieldIn (128 * (16 * 3 + 1) + 0x12) 2 ≡ item (fieldBy 0x12 3 4 3) 7
 
 pub said-worked : Said
 said-worked =
@@ -147,4 +149,6 @@ said-worked =
       a-payload = refl;
       a-field = refl;
       a-spoilt-field = refl;
+      a-number's-word = refl;
+      a-length's-word = refl;
     }

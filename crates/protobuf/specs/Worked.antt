@@ -1,7 +1,8 @@
 -- Worked values: every clause of document 01, section 1, and of the Protocol Buffers text beside it, at concrete bytes. They are proved by
 -- computing the definitions, so a definition that says something else does not pass, however the code and the laws are changed with it.
 -- Bytes are hexadecimal; `negsuc n` is −(n + 1).
-use Prim.Native.Nat.{_+_, _-_, _^_}
+use Prim.Native.Nat.{ℕ, _+_, _-_, _^_}
+use native.Mathlib.Omega.{arith}
 use mathlib.Core.Bool.{true, false}
 use mathlib.Core.Path.{_≡_, refl}
 use mathlib.Core.List.{List, [], _∷_, _++_, map}
@@ -15,9 +16,10 @@ use Rattle.protobuf.specs.Refusal.{number}
 use Rattle.protobuf.specs.Read.{taken, refused, andThen}
 use Rattle.protobuf.specs.Varint.{digits, varint}
 use Rattle.protobuf.specs.Tag.{tagBy, legal, tag, tagAt, done, tagged, untagged}
-use Rattle.protobuf.specs.Stream.{Stream, end, more, last, item, unrolled, mapped}
+use Rattle.protobuf.specs.Stream.{Stream, Item, end, more, last, item, unrolled, mapped}
+use Rattle.protobuf.specs.Short.{Short}
 use Rattle.numbers.specs.Signed.{signed, twos, unzigzag, zigzag, residue, wrap}
-use Rattle.protobuf.specs.Column.{ended, cut, valueAt, columnFrom, column, int32s, uint32s, sint32s, sint64s, bools, sumsFrom, sums, stepAt}
+use Rattle.protobuf.specs.Column.{ColumnEnd, ended, cut, valueAt, columnFrom, column, int32s, uint32s, sint32s, sint64s, bools, sumsFrom, sums, stepAt}
 use Rattle.protobuf.specs.Answers.{varintOf, refusalOf, tagOf, stepBy}
 
 -- the table of numbers that come back
@@ -169,6 +171,7 @@ pub record Said : Type 0 where
   pub a-step : stepBy 9 (item 150 2) ≡ step-answer.Value 150 (record { at = 2; end = 9 })
   pub a-refused-step : stepBy 9 (last (cut VarintCut)) ≡ step-answer.Refused VarintCut (record { at = 0; end = 0 })
   pub an-ended-step : stepBy 9 (last ended) ≡ step-answer.Ended
+  pub a-word : (i : Item ℕ ColumnEnd) → Short i 3 82 → i ≡ item 5 5
 
 pub said-worked : Said
 said-worked =
@@ -180,4 +183,5 @@ said-worked =
       a-step = refl;
       a-refused-step = refl;
       an-ended-step = refl;
+      a-word = λ i h. h .says (λ z. omega arith);
     }

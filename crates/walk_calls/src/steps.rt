@@ -247,7 +247,14 @@ fn steps_over(
             count: 0,
             next: BlockElementsIter::Ended,
         },
-        RecordIn::Record(block) => fill_from(buffer, block, start, out, most),
+        RecordIn::Record(block) => {
+            // For one element a step is the shorter way.
+            if most < 2 {
+                fill_steps(buffer, block, start, out, 0, most)
+            } else {
+                fill_from(buffer, block, start, out, most)
+            }
+        }
     }
 }
 

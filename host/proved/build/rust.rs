@@ -44,7 +44,7 @@ fn safe(function: &Function) -> String {
     // `ref` is a word of Rust.
     let word = if name == "ref" { "r#" } else { "" };
     format!(
-        "/// `nuorpyts_{name}`.\npub fn {word}{name}({taken}) -> u32 {{\n\
+        "/// `nuorpyts_{name}`.\n#[inline]\npub fn {word}{name}({taken}) -> u32 {{\n\
          unsafe {{ nuorpyts_{name}({passed}) }}\n}}\n"
     )
 }

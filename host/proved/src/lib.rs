@@ -25,6 +25,7 @@ pub type ByRecord = fn(&mut [u8], &mut [u8], usize, &mut [u8]) -> u32;
 
 /// `nuorpyts_has_tags`, which the header has inline: false where an element
 /// surely has no tags.
+#[inline]
 pub fn has_tags(buffer: &[u8], element: &[u8]) -> bool {
     let view = &element[ELEMENT_VIEW..];
     let keys = match number(element, ELEMENT_KIND) as usize {
@@ -41,6 +42,7 @@ pub fn has_tags(buffer: &[u8], element: &[u8]) -> bool {
 
 /// The number at a place of an answer, a record or a state: 8 bytes, the
 /// lowest first.
+#[inline]
 pub fn number(bytes: &[u8], place: usize) -> u64 {
     let mut number = [0; NUMBER_SIZE];
     number.copy_from_slice(&bytes[place..place + NUMBER_SIZE]);

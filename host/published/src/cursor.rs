@@ -28,6 +28,7 @@ pub enum WireError {
 
 impl WireError {
     /// The sentence that `refusal` maps to the number.
+    #[inline]
     pub fn as_str(self) -> &'static str {
         match self {
             WireError::VarintEnds => "stand-in: bytes end in a varint",
@@ -47,6 +48,7 @@ pub struct Cursor<'a> {
 }
 
 impl<'a> Cursor<'a> {
+    #[inline]
     pub fn new(data: &'a [u8]) -> Self {
         Cursor {
             rest: data,
@@ -54,15 +56,18 @@ impl<'a> Cursor<'a> {
         }
     }
 
+    #[inline]
     pub fn is_empty(&self) -> bool {
         self.rest.is_empty()
     }
 
+    #[inline]
     pub fn remaining(&self) -> usize {
         self.rest.len()
     }
 
     /// Ten bytes at most; of the tenth only the lowest bit counts.
+    #[inline]
     pub fn read_varint(&mut self) -> Result<u64, WireError> {
         let mut value = 0;
         for (i, &byte) in self.rest.iter().take(10).enumerate() {
@@ -79,15 +84,18 @@ impl<'a> Cursor<'a> {
         }
     }
 
+    #[inline]
     pub fn read_varint_i64(&mut self) -> Result<i64, WireError> {
         self.read_varint().map(|value| value as i64)
     }
 
+    #[inline]
     pub fn read_sint64(&mut self) -> Result<i64, WireError> {
         self.read_varint().map(unzigzag)
     }
 
     /// Field number and wire type, or none at the end.
+    #[inline]
     pub fn read_tag(&mut self) -> Result<Option<(u32, u32)>, WireError> {
         if self.is_empty() {
             return Ok(None);
@@ -102,6 +110,7 @@ impl<'a> Cursor<'a> {
         Ok(Some((tag >> 3, tag & 7)))
     }
 
+    #[inline]
     pub fn read_len_delimited(&mut self) -> Result<&'a [u8], WireError> {
         let before = self.rest;
         let len = self.read_varint()?;
@@ -110,6 +119,7 @@ impl<'a> Cursor<'a> {
 
     /// A field's raw bytes: of a varint its own, of a length-delimited field
     /// its payload.
+    #[inline]
     pub fn read_raw_field(&mut self, wire_type: u32) -> Result<&'a [u8], WireError> {
         if wire_type == WIRE_LEN {
             return self.read_len_delimited();
@@ -120,6 +130,7 @@ impl<'a> Cursor<'a> {
     }
 
     /// Skips the value of the tag that was read last.
+    #[inline]
     pub fn skip_field(&mut self, wire_type: u32) -> Result<(), WireError> {
         let before = self.clone();
         self.skip(wire_type).inspect_err(|_| *self = before)

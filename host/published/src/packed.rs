@@ -24,6 +24,7 @@ macro_rules! packed_iter {
         impl Iterator for $name<'_> {
             type Item = $item;
 
+            #[inline]
             fn next(&mut self) -> Option<$item> {
                 next_value(&mut self.0).map($narrow)
             }
