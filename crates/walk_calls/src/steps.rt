@@ -200,14 +200,11 @@ fn fill_from_nodes(
     let columns = f.columns;
     let mut behind = nodes;
     behind.columns = columns;
-    fill_steps(
-        buffer,
-        block,
-        BlockElementsIter::DenseNodes(behind),
-        out,
-        f.count,
-        most,
-    )
+    let next = BlockElementsIter::DenseNodes(behind);
+    if f.count == most {
+        return steps_behind(OUTSIDE, f.count, next);
+    }
+    fill_steps(buffer, block, next, out, f.count, most)
 }
 
 // The same from any state on.
@@ -247,14 +244,7 @@ fn steps_over(
             count: 0,
             next: BlockElementsIter::Ended,
         },
-        RecordIn::Record(block) => {
-            // For one element a step is the shorter way.
-            if most < 2 {
-                fill_steps(buffer, block, start, out, 0, most)
-            } else {
-                fill_from(buffer, block, start, out, most)
-            }
-        }
+        RecordIn::Record(block) => fill_from(buffer, block, start, out, most),
     }
 }
 
