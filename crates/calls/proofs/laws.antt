@@ -1,6 +1,5 @@
 -- One file of laws for each subject.
 pub mod Calls
-pub mod Short
 pub mod Slots
 pub mod References
 pub mod Members

@@ -3,4 +3,5 @@ pub mod InStep
 pub mod Inside
 pub mod KeysVals
 pub mod Zip
+pub mod Short
 pub mod Count

@@ -1,7 +1,7 @@
 -- Worked values: every clause of document 01, section 1, and of the Protocol Buffers text beside it, at concrete bytes. They are proved by
 -- computing the definitions, so a definition that says something else does not pass, however the code and the laws are changed with it.
 -- Bytes are hexadecimal; `negsuc n` is −(n + 1).
-use Prim.Native.Nat.{ℕ, _+_, _-_, _^_}
+use Prim.Native.Nat.{ℕ, suc, _+_, _-_, _^_}
 use native.Mathlib.Omega.{arith}
 use mathlib.Core.Bool.{true, false}
 use mathlib.Core.Path.{_≡_, refl}
@@ -172,6 +172,8 @@ pub record Said : Type 0 where
   pub a-refused-step : stepBy 9 (last (cut VarintCut)) ≡ step-answer.Refused VarintCut (record { at = 0; end = 0 })
   pub an-ended-step : stepBy 9 (last ended) ≡ step-answer.Ended
   pub a-word : (i : Item ℕ ColumnEnd) → Short i 3 82 → i ≡ item 5 5
+  pub a-word-of-one-byte : (word : ℕ) → Short (item 5 4) 3 word → word ≡ 81
+  pub no-word-at-the-end : (word : ℕ) → Short (last ended) 3 (suc word) → ⊥
 
 pub said-worked : Said
 said-worked =
@@ -184,4 +186,6 @@ said-worked =
       a-refused-step = refl;
       an-ended-step = refl;
       a-word = λ i h. h .says (λ z. omega arith);
+      a-word-of-one-byte = λ word h. h .serves 5 refl;
+      no-word-at-the-end = λ word h. let e = h .says (λ z. omega arith) in let z : _≡_ {A = ℕ} 0 1 = cc in omega arith;
     }

@@ -125,9 +125,9 @@ pub fn wide_value(s: &[u8], at: usize, end: usize) -> u64
     if end <= at {
         return 0;
     }
-    let first = s[at];
-    if first < 128 {
-        return 16 * (first as u64) + 1;
+    let byte = s[at];
+    if byte < 128 {
+        return 16 * (byte as u64) + 1;
     }
     let r = read_varint(&s[..end], at);
     let Varint::Value { value, next } = r else {

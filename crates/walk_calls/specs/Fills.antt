@@ -1,8 +1,6 @@
 -- What the loops of a call of the walk promise to each other: the elements that a call hands out are put by several loops, one behind the other.
 use Prim.Native.Nat.{ℕ}
-use mathlib.Core.Path.{_≡_}
 use mathlib.Core.List.{List}
-use lib.ListN.{length}
 use Rattle.protobuf.specs.declared.column.Column as state
 use Rattle.protobuf.specs.Column.{Column}
 use Rattle.wire.specs.declared.record.WireBlock.{WireBlock}
@@ -15,8 +13,7 @@ use Rattle.walk.specs.declared.state.BlockElementsIter.the-variants as walk
 use Rattle.walk.specs.Said.{denseElement}
 use Rattle.walk.specs.Walk.{Found, partOf, elementsFrom}
 use Rattle.calls.specs.Calls.{answered}
-use Rattle.calls.specs.Filling.{FilledBy}
-use Rattle.calls.proofs.laws.Calls.{FillingBy}
+use Rattle.calls.specs.Filling.{FillingBy, FilledBy}
 use Rattle.walk_calls.specs.Steps.{Put, foundBy, putWords}
 
 -- a dense node as it is put, by the columns behind it

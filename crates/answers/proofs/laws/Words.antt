@@ -5,7 +5,10 @@ use mathlib.Core.List.{List, [], _∷_, _++_, append-assoc, append-nil}
 use native.Mathlib.Nat.{mod-eq-of-lt, zero-add}
 use native.Mathlib.Numerals.{add-one}
 use native.Mathlib.Omega.{arith}
-use borrow.Author.Tests.{le-leb, lt-leb}
+use mathlib.Core.Bool.{Bool, true, false}
+use lib.Dec.{leb}
+use borrow.Author.Tests.{le-leb, lt-leb, leb-true}
+use Rattle.numbers.specs.Choose.{choose}
 use lib.ListN.{length, take, drop, getD, length-append, length-drop, take-append-drop, drop-of-length-le}
 use lib.Seq.{take-at, drop-at, drop-drop, take-suc, take-all, length-take-le}
 use Rattle.numbers.specs.Little.{little, bytes, numberAt, written, writtenAt}
@@ -104,9 +107,20 @@ put-behind s at ws more h e g =
     ∙ written-twice s at (words ws) (words more) (omega (arith, words-length ws, words-length more))
     ∙ ap (written s at) (sym (words-append ws more))
 
+-- with room or without, the slice is as long as before
+pub filled-at-length : (s : List ℕ) (at : ℕ) (ws : List ℕ) → length (filledAt s at ws) ≡ length s
+filled-at-length s at ws = by (leb (at + 8 * length ws) (length s)) refl
+  where
+    by : (b : Bool) → leb (at + 8 * length ws) (length s) ≡ b → length (choose b (written s at (words ws)) s) ≡ length s
+    by true e = written-length s at (words ws) (omega (arith, words-length ws, leb-true (at + 8 * length ws) (length s) e))
+    by false e = refl
+
 -- from the slice's start on
 pub from-start : (s ws : List ℕ) → filledAt s 0 ws ≡ filled s ws
 from-start s ws = rw (zero-add (8 * length ws))
+
+pub filled-length : (s ws : List ℕ) → length (filled s ws) ≡ length s
+filled-length s ws = ap length (sym (from-start s ws)) ∙ filled-at-length s 0 ws
 
 pub put-short : (s ws : List ℕ) → length s < 8 * length ws → s ≡ filled s ws
 put-short s ws h = rw (lt-leb (8 * length ws) (length s) h)

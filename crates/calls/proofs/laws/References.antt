@@ -29,7 +29,7 @@ use Rattle.calls.specs.Filling.{Called}
 use Rattle.calls.specs.Slots.{columnAt, sumAt}
 use Rattle.calls.specs.References.{refWords, refsAt, refItem, refsOver, refsCall}
 use Rattle.calls.proofs.laws.Calls.{puts-item, one-filled, call-asks, with-room}
-use Rattle.calls.proofs.laws.Short.{behindWord, word-tells, word-within}
+use Rattle.columns.proofs.laws.Short.{behindWord, word-tells, word-within}
 use Rattle.calls.proofs.laws.Slots.{signed-kept, number-back}
 
 module _ (s : List ℕ) {phase : ℕ} (e : phase ≡ numberAt 8 s 0) where

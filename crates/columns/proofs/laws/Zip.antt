@@ -1,18 +1,17 @@
 -- The laws of several columns in step: what a step tells of a column, its field's type makes of the value, a running sum of the sum, and two
 -- columns in step of both.
-use Prim.Native.Nat.{ℕ, _+_, _/_, _%_, _^_, _<_}
+use Prim.Native.Nat.{ℕ, _^_, _<_}
 use mathlib.Core.Path.{_≡_, refl, sym, ap, _∙_}
 use mathlib.Core.List.{List}
-use mathlib.Core.Bool.{Bool, true}
+use mathlib.Core.Bool.{Bool}
 use lib.IntN.{ℤ}
 use lib.Signed.{mag}
 use mir.Syntax.{Width}
 use mir.Val.{bits, hbits, toZ, ofZ}
 use Rattle.protobuf.specs.declared.refusal.Refusal.{Refusal}
 use Rattle.protobuf.specs.declared.column.Column as state
-use Rattle.protobuf.specs.Short.{Short}
-use Rattle.protobuf.specs.Stream.{end, more, item, mapped}
-use Rattle.numbers.specs.Signed.{zigzag, wrappingAdd}
+use Rattle.protobuf.specs.Stream.{end, more, mapped}
+use Rattle.numbers.specs.Signed.{wrappingAdd}
 use Rattle.protobuf.specs.Column.{ColumnEnd, ended, cut, Column, sumsFrom, stepAt}
 use Rattle.numbers.proofs.laws.Machine.{returned}
 use Rattle.block.specs.Infos.{Infos, NextInfo, present, stopped, readNext}
@@ -22,9 +21,7 @@ use Rattle.columns.specs.declared.reader.ColumnStep.{ColumnStep}
 use Rattle.columns.specs.InStep.{saidBy, inStep, ahead, readBy}
 use Rattle.columns.specs.declared.sums.Sum64.{Sum64}
 use Rattle.columns.specs.declared.sums.Sum64Step.{Sum64Step}
-use Rattle.columns.specs.Inside.{columnInside}
-use Rattle.columns.specs.Zip.{both, zip, sum64Ahead, sum64Said, movedSum}
-use Rattle.columns.proofs.laws.Inside.{read-inside}
+use Rattle.columns.specs.Zip.{both, zip, sum64Ahead, sum64Said}
 use Rattle.columns.proofs.laws.InStep.{read-says}
 
 -- ---- what is told of a stream
@@ -65,20 +62,6 @@ summed w sum {t} {d} {rest = rest} h e =
 -- what a step of a summed column says
 pub sum-told : (s : List ℕ) (state : Sum64) (r : Sum64Step) → sum64Said s r ≡ sum64Ahead s state → Tells (r .told) (r .next .sum) (sum64Ahead s (r .next)) (sum64Ahead s state)
 sum-told s state r e = record { so = e }
-
--- the state behind a value that a word tells: the value is the next one, and the state is inside
-module _ (s : List ℕ) (c : Sum64) {word : ℕ} (short : Short (stepAt s (c .column .at) (c .column .end)) (c .column .at) word) (some : word ≡ 0 → ⊥) where
-  abbrev told-step : ColumnStep
-  told-step = readBy (c .column .end) (item (word / 16) (c .column .at + word % 16))
-
-  is-step : told-step ≡ readBy (c .column .end) (stepAt s (c .column .at) (c .column .end))
-  is-step = ap (readBy (c .column .end)) (sym (short .says some))
-
-  pub word-told : Tells told.Value (movedSum c word .sum) (sum64Ahead s (movedSum c word)) (sum64Ahead s c)
-  word-told = summed 64 (c .sum) (typed (zigzag 64) (reads s (c .column) is-step) refl) refl
-
-  pub word-inside : columnInside s (movedSum c word .column) ≡ true
-  word-inside = read-inside s (c .column) is-step
 
 -- two columns in step
 zip-said : {A B : Type 0} (a b : Told) (x : A) (y : B) (xs : Column A) (ys : Column B) → saidBy (inStep a b) (both x y) (zip xs ys) ≡ zip (saidBy a x xs) (saidBy b y ys)

@@ -1,38 +1,28 @@
 -- The laws of a dense node whose values are told by words, and which has no pairs: its row is the next one, and so is the node.
-use Prim.Native.Nat.{ℕ, _+_, _%_, _≤_}
+use Prim.Native.Nat.{ℕ, _+_}
 use mathlib.Core.Path.{_≡_, refl, sym, ap, _∙_, subst}
 use mathlib.Core.List.{List}
 use mathlib.Core.Option.{none}
 use mathlib.Core.Bool.{true}
 use native.Mathlib.Omega.{arith}
-use lib.Dec.{leb}
-use lib.ListN.{length}
-use borrow.Author.Tests.{leb-true}
 use Rattle.protobuf.specs.Stream.{end}
 use Rattle.protobuf.specs.Column.{ColumnEnd, stepAt}
 use Rattle.protobuf.specs.Short.{Short}
 use Rattle.columns.specs.declared.sums.Sum64.{Sum64}
-use Rattle.columns.specs.Inside.{columnInside}
-use Rattle.columns.specs.Zip.{rowsAhead, movedSum}
+use Rattle.columns.specs.Zip.{movedSum}
 use Rattle.columns.proofs.laws.Inside.{also-true}
-use Rattle.columns.proofs.laws.Zip.{told-is, zipped, word-told, word-inside}
+use Rattle.columns.proofs.laws.Zip.{told-is, zipped}
+use Rattle.columns.proofs.laws.Short.{sum-word, word-inside}
 use Rattle.kinds.specs.declared.state.DenseColumns.{DenseColumns}
 use Rattle.kinds.specs.declared.dense_nodes.DenseStep.the-variants as dense
 use Rattle.kinds.specs.declared.dense_nodes.NextNode.{NextNode}
 use Rattle.kinds.specs.Dense.{denseAhead, denseSaid}
 use Rattle.kinds.specs.Said.{zeroNext, isEnd, columnsInside, NodeSaid}
 use Rattle.kinds.proofs.laws.Dense.{nodes-more, pairs-kept, byte-passed, byte-behind}
-use Rattle.kinds.proofs.laws.Inside.{both-hold}
 
 -- a word tells what a summed column has next
 abbrev pub Word : List ℕ → Sum64 → ℕ → Type 0
 Word s c word = Short (stepAt s (c .column .at) (c .column .end)) (c .column .at) word
-
--- the place behind it is within the bytes
-pub word-within : (s : List ℕ) (c : Sum64) {word : ℕ} → Word s c word → (word ≡ 0 → ⊥) → c .column .at + word % 16 ≤ length s
-word-within s c {word} short some =
-    let inside = both-hold (leb (c .column .at + word % 16) (c .column .end)) _ (word-inside s c short some) in
-    omega (arith, leb-true (c .column .at + word % 16) (c .column .end) (inside .0), leb-true (c .column .end) (length s) (inside .1))
 
 module _ (s : List ℕ) (d : DenseColumns) {id lat lon : ℕ} (i : Word s (d .rows .ids) id) (some-id : id ≡ 0 → ⊥) (y : Word s (d .rows .lats) lat) (some-lat : lat ≡ 0 → ⊥)
     (x : Word s (d .rows .lons) lon) (some-lon : lon ≡ 0 → ⊥) (no-pairs : zeroNext s (d .keyvals) ≡ true) where
@@ -46,13 +36,13 @@ module _ (s : List ℕ) (d : DenseColumns) {id lat lon : ℕ} (i : Word s (d .ro
 
   pub short-node : denseSaid s d (dense.Node behind) ≡ denseAhead s d
   short-node =
-      let row = told-is (zipped (word-told s (d .rows .ids) i some-id) (zipped (word-told s (d .rows .lats) y some-lat) (word-told s (d .rows .lons) x some-lon) refl) refl) refl in
+      let row = told-is (zipped (sum-word s (d .rows .ids) some-id i) (zipped (sum-word s (d .rows .lats) some-lat y) (sum-word s (d .rows .lons) some-lon x) refl) refl) refl in
       sym (nodes-more none _ row ∙ pairs-kept _ _ (sym (byte-passed s (d .keyvals) no-pairs)))
 
   pub short-inside : columnsInside s behind ≡ true
   short-inside =
       also-true
-      (also-true (word-inside s (d .rows .ids) i some-id) (also-true (word-inside s (d .rows .lats) y some-lat) (word-inside s (d .rows .lons) x some-lon)))
+      (also-true (word-inside s (d .rows .ids .column) some-id i) (also-true (word-inside s (d .rows .lats .column) some-lat y) (word-inside s (d .rows .lons .column) some-lon x)))
       (byte-behind s (d .keyvals) no-pairs)
 
   pub short-found : {r : NextNode} → r ≡ record { found = 1; columns = behind } → NodeSaid s d r

@@ -14,8 +14,8 @@ use Rattle.protobuf.specs.Tag.{Tag, tagBy, split, TagAt, done, tagged, untagged
 use Rattle.protobuf.specs.Varint.{varint}
 use Rattle.message.specs.Payload.{Payload, rawVarint, lengthDelimited, valueBy, payload}
 use Rattle.protobuf.specs.Stream.{Item, last, item, follow}
-use Rattle.message.specs.Message.{Field, MessageEnd, complete, cut, spoilt, withPayload, withTag, fieldAt, messageFrom}
-use Rattle.message.specs.Answers.{fieldBy, fieldIn, ShortField}
+use Rattle.message.specs.Message.{Field, MessageEnd, complete, cut, withPayload, withTag, fieldAt, messageFrom}
+use Rattle.message.specs.Answers.{fieldBy, ShortField}
 use Rattle.protobuf.proofs.laws.Read.{reached}
 use Rattle.protobuf.proofs.laws.Varint.{one-byte, varint-reach}
 use Rattle.protobuf.proofs.laws.Tag.{tag-read, tag-reach, tagged-tag, small-parts, split-joined}

@@ -16,8 +16,6 @@ use denote.Triple.Clauses.{AtExit}
 use borrow.Fn.Kinds.{Dens, endedOf}
 use borrow.Author.Tests.{le-leb}
 use Rattle.numbers.specs.Choose.{choose}
-use Rattle.numbers.specs.Little.{written}
-use Rattle.numbers.proofs.laws.Little.{written-length}
 use Rattle.protobuf.specs.Column.{Column}
 use Rattle.fields.specs.Outcome.{Outcome, kept}
 use Rattle.wire.specs.declared.record.WireBlock.{WireBlock}
@@ -33,16 +31,15 @@ use Rattle.elements.specs.Members.{membersStart}
 use Rattle.walk.specs.declared.state.BlockElementsIter.the-variants as walk
 use Rattle.walk.specs.Walk.{Found, fresh}
 use Rattle.walk.specs.Shows.{Shows}
-use Rattle.answers.specs.Words.{words, filled}
+use Rattle.answers.specs.Words.{filled}
 use Rattle.answers.specs.Codes.{codeOf}
-use Rattle.answers.proofs.laws.Words.{words-length}
+use Rattle.answers.proofs.laws.Words.{filled-length}
 use Rattle.answers.proofs.laws.Codes.{long-enough}
 use Rattle.calls.specs.Calls.{oneRoom, roomFor, callCode, itemsOf, itemsPut, countAfter, SlotLeft}
 use Rattle.calls.specs.References.{refWords, refsAt, refsOver, refItem}
 use Rattle.tag_calls.specs.Tags.{tagWords, tagsAt, tagsOver, tagsIn, tagItem}
 use Rattle.calls.specs.Members.{memberWords, membersAt, membersOver, membersIn, memberItem}
 use Rattle.start_calls.specs.Starts.{refsStartIn, tagsStartIn, membersStartIn, startedBy}
-use Rattle.start_calls.proofs.laws.Starts.{refs-width, tags-width, members-width}
 use Rattle.walk_slots.specs.Slot.{walkWords, walkAt}
 use Rattle.walk_calls.specs.Steps.{Put, foundBy, ElementsIn, walkOver, walkIn}
 use Rattle.walk_calls.specs.Chain.{callOn, CallPost}
@@ -99,18 +96,12 @@ pub record Starts {W : Type 0} (width : ℕ) (stateAt : List ℕ → W) (w : W) 
   pub long : width ≤ length slot
   pub stands : stateAt slot ≡ w
 
--- a slot keeps its length
-same-long : (width : ℕ) (slot ws : List ℕ) {left : List ℕ} → width ≤ length slot → 8 * length ws ≤ width → left ≡ filled slot ws → width ≤ length left
-same-long width slot ws long few e =
-    let put = e ∙ sym (long-enough (8 * length ws) slot (written slot 0 (words ws)) slot (omega arith)) in
-    omega (arith, ap length put, written-length slot 0 (words ws) (omega (arith, words-length ws)))
-
-started : {W : Type 0} (width : ℕ) (stateAt : List ℕ → W) (stateWords : W → List ℕ) (over : W) (slot : List ℕ) {start : Outcome W} {w : W} {code : ℕ} {left : List ℕ} → ((v : W) → 8 * length (stateWords v) ≡ width) → width ≤ length slot → start ≡ kept w
+started : {W : Type 0} (width : ℕ) (stateAt : List ℕ → W) (stateWords : W → List ℕ) (over : W) (slot : List ℕ) {start : Outcome W} {w : W} {code : ℕ} {left : List ℕ} → width ≤ length slot → start ≡ kept w
     → code ≡ choose (leb width (length slot)) (codeOf start) 14 → left ≡ filled slot (stateWords (startedBy over start)) → (width ≤ length slot → stateAt left ≡ startedBy over start) → Starts width stateAt w code left
-started width stateAt stateWords over slot {start} size long e tells next back =
+started width stateAt stateWords over slot {start} long e tells next back =
     record {
       tells = tells ∙ sym (long-enough width slot (codeOf start) 14 long) ∙ ap codeOf e;
-      long = same-long width slot (stateWords (startedBy over start)) long (omega (arith, size (startedBy over start))) next;
+      long = omega (arith, ap length next, filled-length slot (stateWords (startedBy over start)));
       stands = back long ∙ ap (startedBy over) e;
     }
 
@@ -119,7 +110,8 @@ started width stateAt stateWords over slot {start} size long e tells next back =
 walk-started : (full : Bool) (slot : List ℕ) {left : List ℕ} {code : ℕ} → 272 ≤ length slot → code ≡ choose (leb 272 (length slot)) 0 14 → left ≡ choose (leb 272 (length slot)) (filled slot (walkWords (fresh full))) slot → (code ≡ 0 → walkAt left ≡ fresh full) → Starts 272 walkAt (fresh full) code left
 walk-started full slot h tells next back =
     let ok = tells ∙ sym (long-enough 272 slot 0 14 h) in
-    record { tells = ok; long = same-long 272 slot (walkWords (fresh full)) h (omega arith) (next ∙ sym (long-enough 272 slot _ slot h)); stands = back ok }
+    let put = next ∙ sym (long-enough 272 slot _ slot h) in
+    record { tells = ok; long = omega (arith, ap length put, filled-length slot (walkWords (fresh full))); stands = back ok }
 
 module _ (κs : Lfts 1) (a : Dens κs plain.ps) (r : ℕ) (e : AtExit (endedOf 1 plain.ps plain.r) κs) where
   pub plain-tie : plain-reads.Learnt κs a r e → 272 ≤ length (now (a .0)) → Starts 272 walkAt (fresh false) r (now (e .0))
@@ -195,16 +187,16 @@ module _ (κs : Lfts 2) (a : Dens κs start-tags.ps) (r : ℕ) (e : AtExit (ende
   pub start-tags-tie : start-tags-reads.Learnt κs a r e → (s : List ℕ) → length s < 2 ^ 64 → (block : WireBlock) (p : Put) {x : Element} → Shows s block (foundBy s p) x → Stands p (now (a .0)) → 40 ≤ length (now (a .1 .0))
       → Starts 40 tagsAt (tagsStart (p .element)) r (now (e .1 .0))
   start-tags-tie told s fits block p h b long =
-      started 40 tagsAt tagWords tag-state.Ended (now (a .1 .0)) tags-width long (ap tagsStartIn (b .is) ∙ tags-begin s fits block (b .out) (b .room) p h) (told .0) (told .1 .0) (told .1 .1)
+      started 40 tagsAt tagWords tag-state.Ended (now (a .1 .0)) long (ap tagsStartIn (b .is) ∙ tags-begin s fits block (b .out) (b .room) p h) (told .0) (told .1 .0) (told .1 .1)
 
 module _ (κs : Lfts 2) (a : Dens κs start-refs.ps) (r : ℕ) (e : AtExit (endedOf 2 start-refs.ps start-refs.r) κs) where
   pub start-refs-tie : start-refs-reads.Learnt κs a r e → (s : List ℕ) → length s < 2 ^ 64 → (block : WireBlock) (p : Put) {x : Element} → Shows s block (foundBy s p) x → Stands p (now (a .0)) → 32 ≤ length (now (a .1 .0))
       → Starts 32 refsAt (refsStart (p .element)) r (now (e .1 .0))
   start-refs-tie told s fits block p h b long =
-      started 32 refsAt refWords ref-state.Ended (now (a .1 .0)) refs-width long (ap refsStartIn (b .is) ∙ refs-begin s fits block (b .out) (b .room) p h) (told .0) (told .1 .0) (told .1 .1)
+      started 32 refsAt refWords ref-state.Ended (now (a .1 .0)) long (ap refsStartIn (b .is) ∙ refs-begin s fits block (b .out) (b .room) p h) (told .0) (told .1 .0) (told .1 .1)
 
 module _ (κs : Lfts 2) (a : Dens κs start-members.ps) (r : ℕ) (e : AtExit (endedOf 2 start-members.ps start-members.r) κs) where
   pub start-members-tie : start-members-reads.Learnt κs a r e → (s : List ℕ) → length s < 2 ^ 64 → (block : WireBlock) (p : Put) {x : Element} → Shows s block (foundBy s p) x → Stands p (now (a .0)) → 64 ≤ length (now (a .1 .0))
       → Starts 64 membersAt (membersStart (p .element)) r (now (e .1 .0))
   start-members-tie told s fits block p h b long =
-      started 64 membersAt memberWords member-state.Ended (now (a .1 .0)) members-width long (ap membersStartIn (b .is) ∙ members-begin s fits block (b .out) (b .room) p h) (told .0) (told .1 .0) (told .1 .1)
+      started 64 membersAt memberWords member-state.Ended (now (a .1 .0)) long (ap membersStartIn (b .is) ∙ members-begin s fits block (b .out) (b .room) p h) (told .0) (told .1 .0) (told .1 .1)

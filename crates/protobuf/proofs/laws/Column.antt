@@ -8,7 +8,7 @@ use native.Mathlib.Omega.{arith}
 use lib.ListN.{length, getD, take}
 use lib.Seq.{getD-take, take-all, length-take-le}
 use lib.Dec.{eqb, leb}
-use borrow.Author.Tests.{le-leb, lt-leb, eq-eqb, ne-eqb}
+use borrow.Author.Tests.{le-leb, lt-leb, leb-true, leb-false, eq-eqb, ne-eqb}
 use Rattle.protobuf.specs.declared.refusal.Refusal.the-variants.{Outside}
 use Rattle.protobuf.specs.Read.{Read, taken, refused}
 use Rattle.numbers.specs.Choose.{choose}
@@ -17,7 +17,7 @@ use Rattle.protobuf.specs.Stream.{Item, last, item, follow}
 use Rattle.protobuf.specs.Column.{ColumnEnd, ended, cut, orCut, valueAt, columnFrom, stepAt}
 use Rattle.protobuf.specs.Short.{Short}
 use Rattle.protobuf.proofs.laws.Read.{reached}
-use Rattle.protobuf.proofs.laws.Varint.{one-byte, two-bytes, three-bytes, varint-reach}
+use Rattle.protobuf.proofs.laws.Varint.{one-byte, two-bytes, three-bytes, varint-reach, longer-reach}
 use Rattle.protobuf.proofs.laws.Stream.{Forward, unroll}
 
 -- ---- the value at a place
@@ -78,25 +78,14 @@ module _ (s : List ℕ) (p e : ℕ) where
 
 -- ---- a value by the short way
 
-pub short-none : {i : Item ℕ ColumnEnd} {p : ℕ} → Short i p 0
-short-none = record { says = λ h. absurd (h refl) }
+items-same : {v w q r : ℕ} → _≡_ {A = Item ℕ ColumnEnd} (item v q) (item w r) → (v ≡ w) × (q ≡ r)
+items-same e = (cc, cc)
 
-pub short-some : {i : Item ℕ ColumnEnd} {p : ℕ} (v n : ℕ) → n < 16 → i ≡ item v (p + n) → Short i p (16 * v + n)
-short-some {p = p} v n h e =
-    let value : (16 * v + n) / 16 ≡ v = omega arith in
-    let bytes : (16 * v + n) % 16 ≡ n = omega arith in
-    record { says = λ z. e ∙ sym (λ i. item (value i) (p + bytes i)) }
-
-pub short-by : (s : List ℕ) (p e : ℕ) → p < e → e ≤ length s → {v q : ℕ} → varint (take e s) p ≡ taken v q → q - p < 16 → Short (stepAt s p e) p (16 * v + (q - p))
-short-by s p e h k {v} {q} read few =
-    let place : q ≡ p + (q - p) = omega (arith, reached (varint-reach (take e s) p) read) in
-    short-some v (q - p) few (step-by s p e (omega arith) k (λ eq. omega arith) read ∙ ap (λ (n : ℕ). item v n) place)
-
+-- a value that was found is the varint before the column's end
 from-varint : (s : List ℕ) (p : ℕ) (r : Read ℕ) {v q : ℕ} → varint s p ≡ r → orCut r ≡ item v q → varint s p ≡ taken v q
 from-varint s p (taken v q) e g = e ∙ cc
 from-varint s p (refused n) e g = absurd (let z : _≡_ {A = ℕ} 0 1 = cc in omega arith)
 
--- a value of a column that ends with its bytes is their varint
 step-varint : (s : List ℕ) (p e : ℕ) {v q : ℕ} → stepAt s p e ≡ item v q → varint (take e s) p ≡ taken v q
 unfolding stepAt valueAt
 step-varint s p e {v} {q} g = by (leb p e) (leb e (length s)) (eqb p (length (take e s))) g
@@ -106,6 +95,47 @@ step-varint s p e {v} {q} g = by (leb p e) (leb e (length s)) (eqb p (length (ta
     by true true true h = absurd (let z : _≡_ {A = ℕ} 0 1 = cc in omega arith)
     by true false d h = absurd (let z : _≡_ {A = ℕ} 0 1 = cc in omega arith)
     by false c d h = absurd (let z : _≡_ {A = ℕ} 0 1 = cc in omega arith)
+
+-- a value's word, and none where there is no value or a longer one
+pub short-some : {i : Item ℕ ColumnEnd} {p : ℕ} (v n : ℕ) → n < 16 → i ≡ item v (p + n) → Short i p (16 * v + n)
+short-some {p = p} v n h e =
+    let value : (16 * v + n) / 16 ≡ v = omega arith in
+    let bytes : (16 * v + n) % 16 ≡ n = omega arith in
+    record {
+      says = λ z. e ∙ sym (λ i. item (value i) (p + bytes i));
+      serves = λ w g. let same = items-same (sym e ∙ g) in omega (arith, same .0, same .1);
+    }
+
+pub short-by : (s : List ℕ) (p e : ℕ) → p < e → e ≤ length s → {v q : ℕ} → varint (take e s) p ≡ taken v q → q - p < 16 → Short (stepAt s p e) p (16 * v + (q - p))
+short-by s p e h k {v} {q} read few =
+    let place : q ≡ p + (q - p) = omega (arith, reached (varint-reach (take e s) p) read) in
+    short-some v (q - p) few (step-by s p e (omega arith) k (λ eq. omega arith) read ∙ ap (λ (n : ℕ). item v n) place)
+
+short-none : {i : Item ℕ ColumnEnd} {p : ℕ} → ((v : ℕ) → i ≡ item v (p + 1) → ⊥) → Short i p 0
+short-none none = record { says = λ h. absurd (h refl); serves = λ v e. absurd (none v e) }
+
+short-last : {i : Item ℕ ColumnEnd} {p : ℕ} {e : ColumnEnd} → i ≡ last e → Short i p 0
+short-last e = short-none (λ v g. let z : _≡_ {A = ℕ} 0 1 = cc in omega arith)
+
+pub short-outside : (s : List ℕ) (p e : ℕ) → length s < e → Short (stepAt s p e) p 0
+short-outside s p e h = by (leb p e) refl
+  where
+    by : (b : Bool) → leb p e ≡ b → Short (stepAt s p e) p 0
+    by true g = short-last (step-outside s p e (leb-true p e g) h)
+    by false g = short-last (step-past s p e (leb-false p e g))
+
+pub short-behind : (s : List ℕ) (p e : ℕ) → e ≤ length s → e ≤ p → Short (stepAt s p e) p 0
+short-behind s p e k h = by (leb p e) refl
+  where
+    by : (b : Bool) → leb p e ≡ b → Short (stepAt s p e) p 0
+    by true g = let le = leb-true p e g in short-last (step-end s p e le k (omega arith))
+    by false g = short-last (step-past s p e (leb-false p e g))
+
+pub short-long : (s : List ℕ) (p e : ℕ) → p < e → e ≤ length s → 128 ≤ getD s p 0 → Short (stepAt s p e) p 0
+short-long s p e h k b =
+    let same : getD (take e s) p 0 ≡ getD s p 0 = getD-take e s p 0 h in
+    let far = longer-reach (take e s) p (omega (arith, length-take-le e s k)) (omega (arith, same)) in
+    short-none (λ v g. omega (arith, reached far (step-varint s p e g)))
 
 pub short-varint : (s : List ℕ) (p : ℕ) {word : ℕ} → Short (stepAt s p (length s)) p word → (word ≡ 0 → ⊥) → varint s p ≡ taken (word / 16) (p + word % 16)
 short-varint s p {word} short h =

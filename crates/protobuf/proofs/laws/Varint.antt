@@ -154,6 +154,13 @@ unfolding varint
 varint-reach s p =
     reach-choose (leb p (length s)) _ _ (λ e. reach-andThen _ (digits-reach 10 s p) (λ v q h k. to h k)) (λ e. nowhere)
 
+-- where the first byte has the top bit, it has two bytes at least
+pub longer-reach : (s : List ℕ) (p : ℕ) → p < length s → 128 ≤ getD s p 0 → Reach s (p + 2) (varint s p)
+unfolding varint
+longer-reach s p h b =
+    let rest : Reach s (p + 2) (digits 10 s p) = rw (digits-more 9 s p h b) (reach-andThen _ (reach-down (omega arith) (digits-reach 9 s (p + 1))) (λ v q g k. to g k)) in
+    reach-choose (leb p (length s)) _ _ (λ e. reach-andThen _ rest (λ v q g k. to g k)) (λ e. nowhere)
+
 -- ---- what the reader's answer says of the definition
 
 pub refusal-read : {r : Varint} {x : Read ℕ} {e n : Refusal} → varintOf r ≡ x → r ≡ Refused e → n ≡ refusalOf r → x ≡ refused n

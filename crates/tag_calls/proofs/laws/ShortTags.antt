@@ -30,7 +30,7 @@ use Rattle.elements.proofs.laws.Tags.{pair-told, dense-told, texts-told, looked
 use Rattle.calls.specs.Filling.{ItemPut}
 use Rattle.tag_calls.specs.Tags.{tagItem, TextsPut, TextsWith, TextsBy}
 use Rattle.calls.proofs.laws.Calls.{puts-item}
-use Rattle.calls.proofs.laws.Short.{behindWord, word-tells, word-stands, word-inside}
+use Rattle.columns.proofs.laws.Short.{behindWord, word-tells, word-stands, word-inside}
 
 -- by whether both texts were found
 module _ {s : List ℕ} {table strings key value : ℕ} {out : List ℕ} {at : ℕ} {put : Bool} {after : List ℕ} (t : TextsBy s table strings key value out at put after) where

@@ -6,27 +6,16 @@ use mathlib.Core.Path.{_≡_, refl, sym, ap, _∙_, subst}
 use mathlib.Core.List.{List, [], _∷_, _++_}
 use mathlib.Core.Bool.{Bool, true, false}
 use lib.ListN.{length}
-use lib.Dec.{leb}
-use borrow.Author.Tests.{le-leb, leb-true}
+use borrow.Author.Tests.{le-leb}
 use Rattle.protobuf.specs.Stream.{end, more}
 use Rattle.protobuf.specs.Column.{ended, Column}
-use Rattle.numbers.specs.Choose.{choose}
-use Rattle.numbers.specs.Little.{written}
-use Rattle.numbers.proofs.laws.Little.{written-length}
-use Rattle.answers.specs.Words.{words, filled}
-use Rattle.answers.proofs.laws.Words.{words-length}
+use Rattle.answers.specs.Words.{filled}
+use Rattle.answers.proofs.laws.Words.{filled-length}
 use Rattle.calls.specs.Calls.{first, past, answered, Call, callBy, answerCode, callCode, givenBy, itemsOf, AnswerLeft, SlotLeft}
 use Rattle.walk.specs.Run.{Run, asks-no-more}
 use Rattle.walk.specs.Run as run
 use Rattle.walk.specs.Shows.{Streams, all-out, one-more}
 use Rattle.walk_calls.specs.Chain.{Answer, callOn, CallPost, Each, none, also, HandsAll, asks-none, hands-some, hands-end}
-
-filled-length : (s ws : List ℕ) → length (filled s ws) ≡ length s
-filled-length s ws = by (leb (8 * length ws) (length s)) refl
-  where
-    by : (b : Bool) → leb (8 * length ws) (length s) ≡ b → length (choose b (written s 0 (words ws)) s) ≡ length s
-    by true e = written-length s 0 (words ws) (omega (arith, words-length ws, leb-true (8 * length ws) (length s) e))
-    by false e = refl
 
 -- the front of a stream that hands out a list is the front of the list
 pub record Front {A B : Type 0} (Is : A → B → Type 0) (n : ℕ) (c : Column A) (items : List B) : Type 0 where

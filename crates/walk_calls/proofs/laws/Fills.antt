@@ -2,14 +2,8 @@
 use Prim.Native.Nat.{ℕ, _+_, _*_, _≤_, _<_}
 use mathlib.Core.Path.{_≡_, refl, sym, ap, _∙_, subst}
 use mathlib.Core.List.{List}
-use mathlib.Core.Bool.{Bool, true, false}
 use native.Mathlib.Omega.{arith}
 use lib.ListN.{length}
-use lib.Dec.{leb}
-use borrow.Author.Tests.{leb-true}
-use Rattle.numbers.specs.Choose.{choose}
-use Rattle.numbers.specs.Little.{written}
-use Rattle.numbers.proofs.laws.Little.{written-length}
 use Rattle.protobuf.specs.Stream.{end, more}
 use Rattle.protobuf.specs.Column.{Column}
 use Rattle.wire.specs.declared.record.WireBlock.{WireBlock}
@@ -25,22 +19,14 @@ use Rattle.walk.specs.Walk.{Found, elementsFrom}
 use Rattle.walk.proofs.laws.Inside.{dense-next}
 use Rattle.walk.proofs.laws.Ahead.{group-more}
 use Rattle.walk.proofs.laws.Walking.{both-inside}
-use Rattle.answers.specs.Words.{words, filledAt}
-use Rattle.answers.proofs.laws.Words.{words-length}
+use Rattle.answers.specs.Words.{filledAt}
+use Rattle.answers.proofs.laws.Words.{filled-at-length}
 use Rattle.calls.specs.Calls.{answered}
 use Rattle.calls.specs.Filling.{StopsAt, PutBy, ItemPutBy, FilledBy}
 use Rattle.calls.proofs.laws.Calls.{FillingBy, fill-begins, fill-on, fill-ends, fill-full, puts-item}
-use Rattle.walk_calls.specs.Steps.{Put, foundBy, putWords}
+use Rattle.walk_calls.specs.Steps.{foundBy, putWords}
 use Rattle.walk_calls.specs.Fills.{nodePut, atColumns, Fills, FillsUp}
 use Rattle.walk_calls.proofs.laws.Steps.{put-small}
-
--- numbers are put into a slice of the same length
-put-long : (out : List ℕ) (at : ℕ) (ws : List ℕ) → length (filledAt out at ws) ≡ length out
-put-long out at ws = by (leb (at + 8 * length ws) (length out)) refl
-  where
-    by : (b : Bool) → leb (at + 8 * length ws) (length out) ≡ b → length (choose b (written out at (words ws)) out) ≡ length out
-    by true e = written-length out at (words ws) (omega (arith, words-length ws, leb-true (at + 8 * length ws) (length out) e))
-    by false e = refl
 
 -- ---- dense nodes
 
@@ -90,7 +76,7 @@ module _ (s : List ℕ) (most : ℕ) (d : DenseNodeIter) where
       record {
         within = omega arith;
         room = p .room;
-        long = ap length e ∙ put-long mid (208 * n) (putWords (nodePut d (columns .keyvals) (next .columns .rows))) ∙ p .long;
+        long = ap length e ∙ filled-at-length mid (208 * n) (putWords (nodePut d (columns .keyvals) (next .columns .rows))) ∙ p .long;
         by = λ r t k. nodes-on s r most t d (p .by r t k) h next said some e;
       }
 
@@ -125,7 +111,7 @@ module _ (s : List ℕ) (r : WireBlock) (most : ℕ) where
     put-same {at} {code} {next} {after} put = by (elementsFrom s r v) (put .by)
       where
         by : (c : Column Found) → PutBy (foundBy s) putWords (elementsFrom s r) v mid at c code next after → length after ≡ length mid
-        by (more x c) q = ap length (q .1 .1 .put) ∙ put-long mid at (putWords (q .1 .1 .item))
+        by (more x c) q = ap length (q .1 .1 .put) ∙ filled-at-length mid at (putWords (q .1 .1 .item))
         by (end e) q = ap length (q .1 .1)
 
     pub goes-on : m < most → {code : ℕ} {next : BlockElementsIter} {after : List ℕ} → ItemPutBy (foundBy s) putWords (elementsFrom s r) v mid (208 * m) code next after → code ≡ 0 → Goes n w out (m + 1) next after

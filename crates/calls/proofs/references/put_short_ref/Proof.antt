@@ -10,7 +10,7 @@ use Rattle.numbers.proofs.laws.Machine.{returned}
 use Rattle.answers.specs.Words.{filled}
 use Rattle.answers.proofs.laws.Signed.{as-word}
 use Rattle.calls.proofs.laws.References.{short-call}
-use Rattle.calls.proofs.laws.Short.{word-within}
+use Rattle.columns.proofs.laws.Short.{word-within}
 use Rattle.calls.proofs.references.put_short_ref.Statement.{statement}
 use Rattle.calls.proofs.references.put_short_ref.Tie as tie
 

@@ -2,10 +2,9 @@
 use borrow.Author.Needs.{needs}
 use Prim.Native.Nat.{ℕ, _-_, _*_, _/_}
 use native.Mathlib.Omega.{arith}
-use mathlib.Core.Path.{_≡_, refl, sym, ap, _∙_, subst}
+use mathlib.Core.Path.{_≡_, refl, sym, ap, _∙_}
 use mathlib.Core.List.{[], _∷_}
 use lib.Dec.{lit≤}
-use lib.IntN.{ℤ}
 use lib.ListN.{length}
 use mir.Syntax.{w64}
 use mir.Val.{toZ, ofZ}
@@ -19,7 +18,7 @@ use Rattle.answers.specs.Words.{filledAt}
 use Rattle.calls.specs.Filling.{Run}
 use Rattle.calls.specs.References.{refItem}
 use Rattle.calls.proofs.laws.Calls.{run-begins, run-on, run-from, puts-item}
-use Rattle.calls.proofs.laws.Short.{word-tells, word-within}
+use Rattle.columns.proofs.laws.Short.{word-tells, word-within}
 use Rattle.calls.proofs.references.short_refs.Statement.{statement}
 use Rattle.calls.proofs.references.short_refs.Tie as tie
 

@@ -1,7 +1,6 @@
 -- `any_node` is `next_dense`, by its case.
 use borrow.Author.Needs.{needs}
-use mathlib.Core.Path.{_≡_, refl, sym, ap, _∙_}
-use native.Mathlib.Omega.{arith}
+use mathlib.Core.Path.{sym, ap, _∙_}
 use Rattle.protobuf.proofs.laws.Read.{says}
 use Rattle.kinds.specs.Dense.{denseSaid}
 use Rattle.kinds.specs.Said.{denseStepInside}

@@ -7,7 +7,8 @@ use mathlib.Core.Bool.{true}
 use Rattle.kinds.specs.Said.{zeroNext}
 use Rattle.fields.proofs.laws.Part.{confirmed}
 use Rattle.kinds.proofs.laws.Dense.{byte-within}
-use Rattle.kinds.proofs.laws.Short.{Word, word-within, short-found}
+use Rattle.columns.proofs.laws.Short.{word-within}
+use Rattle.kinds.proofs.laws.Short.{Word, short-found}
 use Rattle.kinds.proofs.dense_nodes.next_node.Statement.{statement}
 use Rattle.kinds.proofs.dense_nodes.next_node.Tie as tie
 
@@ -39,9 +40,9 @@ next-node-spec =
     (λ c κs. search needs)
     (λ c κs. search needs)
     (λ c. search needs)
-    (λ c κs. let b = c .before .before .before .before .before .before .before .before .before .before .before in omega (arith, b .good .0 .0, word-within (b .args .buffer .now) (b .args .columns .rows .ids) (words c .0) (c .before .before .before .before .if1 .left)))
-    (λ c κs. let b = c .before .before .before .before .before .before .before .before .before .before .before .before in omega (arith, b .good .0 .0, word-within (b .args .buffer .now) (b .args .columns .rows .lats) (words (c .before) .1 .0) (c .before .before .before .before .if2 .left)))
-    (λ c κs. let b = c .before .before .before .before .before .before .before .before .before .before .before .before .before in omega (arith, b .good .0 .0, word-within (b .args .buffer .now) (b .args .columns .rows .lons) (words (c .before .before) .1 .1) (c .before .before .before .before .if3 .left)))
+    (λ c κs. let b = c .before .before .before .before .before .before .before .before .before .before .before in omega (arith, b .good .0 .0, word-within (b .args .buffer .now) (b .args .columns .rows .ids .column) (c .before .before .before .before .if1 .left) (words c .0)))
+    (λ c κs. let b = c .before .before .before .before .before .before .before .before .before .before .before .before in omega (arith, b .good .0 .0, word-within (b .args .buffer .now) (b .args .columns .rows .lats .column) (c .before .before .before .before .if2 .left) (words (c .before) .1 .0)))
+    (λ c κs. let b = c .before .before .before .before .before .before .before .before .before .before .before .before .before in omega (arith, b .good .0 .0, word-within (b .args .buffer .now) (b .args .columns .rows .lons .column) (c .before .before .before .before .if3 .left) (words (c .before .before) .1 .1)))
     (λ c.
     let e = c .before .before .before .before in
     let b = e .before .before .before .before .before .before .before .before .before .before .before in

@@ -2,7 +2,7 @@
 use borrow.Author.Needs.{needs}
 use native.Mathlib.Omega.{arith}
 use lib.Dec.{lit<}
-use Rattle.protobuf.proofs.laws.Column.{step-one, step-two, step-three, short-none, short-some}
+use Rattle.protobuf.proofs.laws.Column.{step-one, step-two, step-three, short-some, short-outside, short-behind, short-long}
 use Rattle.protobuf.proofs.column.short_value.Statement.{statement}
 use Rattle.protobuf.proofs.column.short_value.Tie as tie
 
@@ -28,15 +28,15 @@ pub short-value-spec : {M : Type 1} → statement M
 short-value-spec =
     tie.close
     (tie.spec
-    (λ c. short-none)
-    (λ c. short-none)
+    (λ c. short-outside _ _ _ (c .if1 .taken))
+    (λ c. short-behind _ _ _ (c .before .if1 .left) (c .if2 .taken))
     (λ c. search needs)
     (λ c. search needs)
     (λ c. search needs)
     (λ c. search needs)
     one-byte
     (λ c. search needs)
-    (λ c. short-none)
+    (λ c. short-long _ _ _ (c .before .before .before .if2 .left) (c .before .before .before .before .if1 .left) (c .before .if3 .left))
     (λ c. search needs)
     (λ c. search needs)
     (λ c. search needs)
@@ -58,4 +58,4 @@ short-value-spec =
     (λ c. search needs)
     (λ c. search needs)
     three-bytes
-    (λ c. short-none))
+    (λ c. short-long _ _ _ (c .before .before .before .before .before .before .before .if2 .left) (c .before .before .before .before .before .before .before .before .if1 .left) (c .before .before .before .before .before .if3 .left)))

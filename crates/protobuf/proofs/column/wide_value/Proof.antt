@@ -7,7 +7,7 @@ use mathlib.Core.Path.{sym}
 use Rattle.protobuf.specs.Answers.{varintOf}
 use Rattle.protobuf.proofs.laws.Read.{says, reached}
 use Rattle.protobuf.proofs.laws.Varint.{varint-reach}
-use Rattle.protobuf.proofs.laws.Column.{step-one, short-none, short-some, short-by}
+use Rattle.protobuf.proofs.laws.Column.{step-one, short-some, short-by, short-outside, short-behind, short-long}
 use Rattle.protobuf.proofs.column.wide_value.Statement.{statement}
 use Rattle.protobuf.proofs.column.wide_value.Tie as tie
 
@@ -29,8 +29,8 @@ pub wide-value-spec : {M : Type 1} → statement M
 wide-value-spec =
     tie.close
     (tie.spec
-    (λ c. short-none)
-    (λ c. short-none)
+    (λ c. short-outside _ _ _ (c .if1 .taken))
+    (λ c. short-behind _ _ _ (c .before .if1 .left) (c .if2 .taken))
     (λ c. search needs)
     (λ c. search needs)
     (λ c. search needs)
@@ -40,10 +40,10 @@ wide-value-spec =
     (λ c κs. search needs)
     (λ c. search needs)
     (λ c. search needs)
-    (λ c. short-none)
+    (λ c. short-long _ _ _ (c .before .before .before .before .before .before .if2 .left) (c .before .before .before .before .before .before .before .if1 .left) (c .before .before .before .before .if3 .left))
     bytes-behind
-    (λ c. short-none)
-    (λ c. short-none)
+    (λ c. short-long _ _ _ (c .before .before .before .before .before .before .before .before .if2 .left) (c .before .before .before .before .before .before .before .before .before .if1 .left) (c .before .before .before .before .before .before .if3 .left))
+    (λ c. short-long _ _ _ (c .before .before .before .before .before .before .before .before .before .if2 .left) (c .before .before .before .before .before .before .before .before .before .before .if1 .left) (c .before .before .before .before .before .before .before .if3 .left))
     (λ c. search needs)
     (λ c. search needs)
     any-bytes)

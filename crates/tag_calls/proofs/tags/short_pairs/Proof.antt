@@ -10,7 +10,7 @@ use Rattle.elements.specs.declared.tags.TagIter.the-variants as iter
 use Rattle.calls.specs.Filling.{Run}
 use Rattle.tag_calls.specs.Tags.{tagItem}
 use Rattle.calls.proofs.laws.Calls.{run-begins, run-same, run-on}
-use Rattle.calls.proofs.laws.Short.{word-within}
+use Rattle.columns.proofs.laws.Short.{word-within}
 use Rattle.tag_calls.proofs.laws.ShortTags.{texts-found, texts-missing, table-inside, pair-put}
 use Rattle.tag_calls.proofs.tags.short_pairs.Statement.{statement}
 use Rattle.tag_calls.proofs.tags.short_pairs.Tie as tie

@@ -1,7 +1,6 @@
 -- `fill_from` goes by whether the state is among plain dense nodes.
 use borrow.Author.Needs.{needs}
 use native.Mathlib.Omega.{arith}
-use mathlib.Core.Path.{sym}
 use Rattle.walk.specs.Walk.{elementsFrom}
 use Rattle.calls.proofs.laws.Calls.{fill-begins}
 use Rattle.walk_calls.specs.Steps.{putWords}

@@ -9,6 +9,7 @@ use lib.ListN.{length, take}
 use lib.Seq.{length-take-le}
 use borrow.Author.Tests.{leb-true, le-leb}
 use Rattle.numbers.specs.Choose.{choose}
+use Rattle.numbers.specs.Signed.{zigzag}
 use Rattle.protobuf.specs.declared.refusal.Refusal.the-variants.{Outside}
 use Rattle.protobuf.specs.declared.column.Column.{Column}
 use Rattle.protobuf.specs.Answers.{stepBy}
@@ -16,12 +17,14 @@ use Rattle.protobuf.specs.Stream.{last, item}
 use Rattle.protobuf.specs.Column.{cut, valueAt, stepAt}
 use Rattle.protobuf.specs.Short.{Short}
 use Rattle.protobuf.proofs.laws.Column.{values-forward}
 use Rattle.columns.specs.declared.told.Told.the-variants as told
 use Rattle.columns.specs.InStep.{ahead}
 use Rattle.columns.specs.Inside.{columnInside}
 use Rattle.columns.proofs.laws.InStep.{stepped}
 use Rattle.columns.proofs.laws.Inside.{also-true}
-use Rattle.columns.proofs.laws.Zip.{Tells}
+use Rattle.columns.specs.declared.sums.Sum64.{Sum64}
+use Rattle.columns.specs.Zip.{sum64Ahead, movedSum}
+use Rattle.columns.proofs.laws.Zip.{Tells, typed, summed}
 
 -- the reader behind a word's value
 abbrev pub behindWord : Column → ℕ → Column
@@ -48,3 +51,8 @@ module _ (s : List ℕ) (c : Column) {word : ℕ} (some : word ≡ 0 → ⊥) (h
 
   pub word-inside : columnInside s (behindWord c word) ≡ true
   word-inside = also-true (le-leb (c .at + word % 16) (c .end) (word-within .1 .0)) (le-leb (c .end) (length s) (word-within .1 .1))
+
+-- of a column that is summed: the sum behind it
+pub sum-word : (s : List ℕ) (c : Sum64) {word : ℕ} → (word ≡ 0 → ⊥) → Short (stepAt s (c .column .at) (c .column .end)) (c .column .at) word
+    → Tells told.Value (movedSum c word .sum) (sum64Ahead s (movedSum c word)) (sum64Ahead s c)
+sum-word s c some h = summed 64 (c .sum) (typed (zigzag 64) (word-tells s (c .column) some h) refl) refl
