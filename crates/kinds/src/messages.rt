@@ -37,7 +37,7 @@ pub enum LooseStep {
 }
 
 // The field of a group that a kind's messages stand in.
-fn field_of(kind: Loose) -> u32
+pub fn field_of(kind: Loose) -> u32
     ensures { λ r. ⌜ r ≡ fieldOf kind ⌝ }
 {
     match kind {
@@ -48,7 +48,7 @@ fn field_of(kind: Loose) -> u32
 }
 
 // An Info's part, which a plain walk does not hand out.
-fn info_in(full: bool, part: Part) -> Part
+pub fn info_in(full: bool, part: Part) -> Part
     ensures { λ r. ⌜ r ≡ infoIn full part ⌝ }
 {
     if full { part } else { NONE }

@@ -8,6 +8,7 @@ use lib.ListN.{length}
 use lib.Dec.{leb}
 use Rattle.protobuf.specs.Column.{Column}
 use Rattle.fields.specs.declared.part.Part.{Part}
+use Rattle.wire.specs.declared.record.WireBlock.{WireBlock}
 use Rattle.elements.specs.declared.element.Element.{Element}
 use Rattle.elements.specs.Element.{itemOf}
 use Rattle.walk.specs.declared.state.BlockElementsIter.{BlockElementsIter}
@@ -48,6 +49,10 @@ walkOver (walk.Messages m) = false
 abbrev pub walkIn : List ℕ → List ℕ → BlockElementsIter → Column Found
 walkIn s rec w = withRecord (recordIn rec) λ r. elementsFrom s r w
 
--- a call over a buffer and a record's slice, by the slot and the room
+-- a call over a buffer and a record, by the slot and the room
+abbrev pub blockCall : List ℕ → WireBlock → List ℕ → ℕ → Call Found
+blockCall s r slot room = callBy (leb 272 (length slot)) (walkOver (walkAt slot)) (answered room (elementsFrom s r (walkAt slot)))
+
+-- the same over a record's slice
 abbrev pub walkCall : List ℕ → List ℕ → List ℕ → ℕ → Call Found
 walkCall s rec slot room = callBy (leb 272 (length slot)) (walkOver (walkAt slot)) (answered room (walkIn s rec (walkAt slot)))

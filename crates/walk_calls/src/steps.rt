@@ -4,37 +4,33 @@ ghost use Prim.Native.Nat.{_+_, _*_, _≤_};
 ghost use lib.ListN.{length};
 ghost use lib.Dec.{leb};
 ghost use Rattle.numbers.specs.Choose.{choose};
-ghost use Rattle.answers.specs.Words.{filled, filledAt};
-ghost use mathlib.Core.Bool.{true};
-ghost use Rattle.lookup.specs.Lookup.{isRecordInside};
-ghost use Rattle.walk.specs.State.{denseInside};
+ghost use Rattle.answers.specs.Words.{filled};
 ghost use Rattle.walk.specs.Walk.{elementsFrom, fresh};
-ghost use Rattle.calls.specs.Calls.{answered, oneRoom, roomFor, callCode, itemsOf, countAfter, SlotLeft};
-ghost use Rattle.calls.specs.Filling.{StopsAt, ItemPutBy, FilledBy, CalledBy};
-ghost use Rattle.walk_slots.specs.Slot.{walkWords, walkAt};
-ghost use Rattle.walk_calls.specs.Fills.{nodePut, atColumns, Fills, FillsUp};
-ghost use Rattle.walk_calls.specs.Steps.{foundBy, putWords, ElementsIn, walkIn, walkCall};
+ghost use Rattle.calls.specs.Calls.{oneRoom, roomFor, callCode, itemsOf, countAfter, SlotLeft};
+ghost use Rattle.calls.specs.Filling.{StopsAt, ItemPutBy, CalledBy};
+ghost use Rattle.walk_slots.specs.Slot.{walkWords, nodesAt, walkAt};
+ghost use Rattle.walk_calls.specs.Fills.{FillsUp, StateInto, RefusedInto};
+ghost use Rattle.walk_calls.specs.Steps.{foundBy, putWords, ElementsIn, walkIn, walkCall, blockCall};
+use crate::messages::put_messages_of;
+use crate::nodes::put_nodes_of;
 use answers::codes::ENDED;
 use answers::codes::OUTSIDE;
 use answers::record::RecordIn;
 use answers::record::record_in;
-use answers::words::put_at;
 use calls::room::Counted;
 use calls::room::one_room;
 use calls::room::put_count;
 use calls::room::room_for;
-use columns::zip::RowColumns;
-use kinds::dense_nodes::next_node;
-use kinds::state::DenseColumns;
+use kinds::state::Messages;
 use layouts::element::put_element;
-use lookup::by_number::is_inside;
-use numbers::signed::bits_i64;
-use protobuf::column::Column;
 use protobuf::refusal::number;
 use walk::block_elements::Said;
-use walk::inside::dense_inside;
 use walk::state::BlockElementsIter;
-use walk::state::DenseNodeIter;
+use walk_slots::slot::PhaseIn;
+use walk_slots::slot::nodes_in;
+use walk_slots::slot::phase_in;
+use walk_slots::slot::put_messages;
+use walk_slots::slot::put_nodes;
 use walk_slots::slot::put_walk;
 use walk_slots::slot::walk_in;
 use wire::record::WireBlock;
@@ -50,12 +46,6 @@ struct StepsFilled {
     code: u32,
     count: usize,
     next: BlockElementsIter,
-}
-
-// How many dense nodes were put, with the columns behind them.
-struct NodesFilled {
-    count: usize,
-    columns: DenseColumns,
 }
 
 // One element more, at a place of `out`.
@@ -110,49 +100,6 @@ fn steps_behind(code: u32, count: usize, state: BlockElementsIter) -> StepsFille
     }
 }
 
-// A plain dense node, by the columns behind it, whose sums it is, and its pairs' reader: ten numbers at a place of `out`.
-fn put_node(out: &mut [u8], at: usize, nodes: DenseNodeIter, tags: Column, rows: RowColumns)
-    ensures { λ r. ⌜ now (out .exit) ≡ filledAt (now (out .entry)) at (putWords (nodePut nodes tags rows)) ⌝ }
-{
-    put_at(
-        out,
-        at,
-        &[
-            0,
-            nodes.of.group as u64,
-            nodes.message.start as u64,
-            nodes.message.len as u64,
-            bits_i64(rows.ids.sum),
-            bits_i64(rows.lats.sum),
-            bits_i64(rows.lons.sum),
-            tags.at as u64,
-            tags.end as u64,
-            0,
-        ],
-    );
-}
-
-// The plain dense nodes that follow one another: they are what a camera draws most of, so their columns alone go round. It stops where there
-// is no next one; what comes there, the end or a number, is told by a step.
-fn fill_nodes(buffer: &[u8], nodes: DenseNodeIter, out: &mut [u8], most: usize) -> NodesFilled
-    requires { ⌜ 208 * most ≤ length (now out) ⌝ }
-    ensures { λ r. ⌜ ((block : WireBlock) → isRecordInside (now (buffer .entry)) block ≡ true → denseInside (now (buffer .entry)) block nodes ≡ true → Fills (now (buffer .entry)) block most (BlockElementsIter.DenseNodes nodes) (now (out .entry)) (r .count) (BlockElementsIter.DenseNodes (atColumns nodes (r .columns))) (now (out .exit))) ⌝ }
-    ensures { λ r. ⌜ r .count ≤ most ⌝ }
-{
-    let mut columns = nodes.columns;
-    let mut count = 0;
-    while count < most {
-        let n = next_node(buffer, columns);
-        if n.found == 0 {
-            return NodesFilled { count, columns };
-        }
-        put_node(out, 208 * count, nodes, columns.keyvals, n.columns.rows);
-        columns = n.columns;
-        count += 1;
-    }
-    NodesFilled { count, columns }
-}
-
 // As many elements as there is room for, behind the first `from` ones.
 fn fill_steps(
     buffer: &[u8],
@@ -163,7 +110,7 @@ fn fill_steps(
     most: usize,
 ) -> StepsFilled
     requires { ⌜ (from ≤ most) × (208 * most ≤ length (now out)) ⌝ }
-    ensures { λ r. ⌜ FillsUp (now (buffer .entry)) block most from start (now (out .entry)) (r .code) (r .count) (r .next) (now (out .exit)) ⌝ }
+    ensures { λ r. ⌜ FillsUp (now (buffer .entry)) (elementsFrom (now (buffer .entry)) block) most from start (now (out .entry)) (r .code) (r .count) (r .next) (now (out .exit)) ⌝ }
 {
     let mut state = start;
     let mut count = from;
@@ -178,73 +125,127 @@ fn fill_steps(
     steps_behind(OUTSIDE, count, state)
 }
 
-// The same from plain dense nodes on, which come first.
-fn fill_from_nodes(
+// Behind the first `from` elements, by steps, with the state behind them in the slot.
+fn state_into(
     buffer: &[u8],
     block: WireBlock,
-    nodes: DenseNodeIter,
+    state: BlockElementsIter,
+    slot: &mut [u8],
+    out: &mut [u8],
+    from: usize,
+    most: usize,
+) -> Counted
+    requires { ⌜ (272 ≤ length (now slot)) × ((from ≤ most) × (208 * most ≤ length (now out))) ⌝ }
+    ensures { λ r. ⌜ StateInto (now (buffer .entry)) (elementsFrom (now (buffer .entry)) block) most from state (now (slot .entry)) (now (out .entry)) (r .code) (r .count) (now (slot .exit)) (now (out .exit)) ⌝ }
+{
+    let r = fill_steps(buffer, block, state, out, from, most);
+    let next = r.next;
+    put_walk(slot, next);
+    Counted {
+        code: r.code,
+        count: r.count,
+    }
+}
+
+// A call whose slot holds plain dense nodes: where they take the room whole, no other state than theirs is made.
+fn nodes_into(
+    buffer: &[u8],
+    block: WireBlock,
+    slot: &mut [u8],
     out: &mut [u8],
     most: usize,
-) -> StepsFilled
-    requires { ⌜ 208 * most ≤ length (now out) ⌝ }
-    ensures { λ r. ⌜ FilledBy (foundBy (now (buffer .entry))) putWords (elementsFrom (now (buffer .entry)) block) 208 BlockElementsIter.Ended (now (out .entry)) (answered most (elementsFrom (now (buffer .entry)) block (BlockElementsIter.DenseNodes nodes))) (r .code) (r .count) (r .next) (now (out .exit)) ⌝ }
+) -> Counted
+    requires { ⌜ (272 ≤ length (now slot)) × (208 * most ≤ length (now out)) ⌝ }
+    requires { ⌜ BlockElementsIter.DenseNodes (nodesAt (now slot)) ≡ walkAt (now slot) ⌝ }
+    ensures { λ r. ⌜ CalledBy (foundBy (now (buffer .entry))) putWords (elementsFrom (now (buffer .entry)) block) 208 BlockElementsIter.Ended (now (out .entry)) walkAt walkWords (now (slot .entry)) (blockCall (now (buffer .entry)) block (now (slot .entry)) most) (r .code) (r .count) (now (slot .exit)) (now (out .exit)) ⌝ }
 {
-    let start = BlockElementsIter::DenseNodes(nodes);
-    if !is_inside(buffer, block) {
-        return fill_steps(buffer, block, start, out, 0, most);
-    }
-    if !dense_inside(buffer, block, nodes) {
-        return fill_steps(buffer, block, start, out, 0, most);
-    }
-    let f = fill_nodes(buffer, nodes, out, most);
+    let nodes = nodes_in(slot);
+    let f = put_nodes_of(buffer, block, nodes, out, most);
     let columns = f.columns;
     let mut behind = nodes;
     behind.columns = columns;
-    let next = BlockElementsIter::DenseNodes(behind);
-    if f.count == most {
-        return steps_behind(OUTSIDE, f.count, next);
+    if 0 < f.count {
+        if f.count == most {
+            put_nodes(slot, behind);
+            return Counted {
+                code: 0,
+                count: f.count,
+            };
+        }
     }
-    fill_steps(buffer, block, next, out, f.count, most)
+    let state = BlockElementsIter::DenseNodes(behind);
+    state_into(buffer, block, state, slot, out, f.count, most)
 }
 
-// The same from any state on.
-fn fill_from(
+// The same of messages.
+fn messages_into(
     buffer: &[u8],
     block: WireBlock,
-    start: BlockElementsIter,
+    m: Messages,
+    slot: &mut [u8],
     out: &mut [u8],
     most: usize,
-) -> StepsFilled
-    requires { ⌜ 208 * most ≤ length (now out) ⌝ }
-    ensures { λ r. ⌜ FilledBy (foundBy (now (buffer .entry))) putWords (elementsFrom (now (buffer .entry)) block) 208 BlockElementsIter.Ended (now (out .entry)) (answered most (elementsFrom (now (buffer .entry)) block start)) (r .code) (r .count) (r .next) (now (out .exit)) ⌝ }
+) -> Counted
+    requires { ⌜ (272 ≤ length (now slot)) × (208 * most ≤ length (now out)) ⌝ }
+    requires { ⌜ BlockElementsIter.Messages m ≡ walkAt (now slot) ⌝ }
+    ensures { λ r. ⌜ CalledBy (foundBy (now (buffer .entry))) putWords (elementsFrom (now (buffer .entry)) block) 208 BlockElementsIter.Ended (now (out .entry)) walkAt walkWords (now (slot .entry)) (blockCall (now (buffer .entry)) block (now (slot .entry)) most) (r .code) (r .count) (now (slot .exit)) (now (out .exit)) ⌝ }
 {
-    match start {
-        BlockElementsIter::DenseNodes(nodes) => {
-            return fill_from_nodes(buffer, block, nodes, out, most);
+    let f = put_messages_of(buffer, block, m, out, most);
+    let mut behind = m;
+    behind.at = f.at;
+    if 0 < f.count {
+        if f.count == most {
+            put_messages(slot, behind);
+            return Counted {
+                code: 0,
+                count: f.count,
+            };
         }
-        _ => return fill_steps(buffer, block, start, out, 0, most),
+    }
+    let state = BlockElementsIter::Messages(behind);
+    state_into(buffer, block, state, slot, out, f.count, most)
+}
+
+// A call over a record, by what the slot's first numbers tell.
+fn block_into(
+    buffer: &[u8],
+    block: WireBlock,
+    slot: &mut [u8],
+    out: &mut [u8],
+    most: usize,
+) -> Counted
+    requires { ⌜ (272 ≤ length (now slot)) × (208 * most ≤ length (now out)) ⌝ }
+    ensures { λ r. ⌜ CalledBy (foundBy (now (buffer .entry))) putWords (elementsFrom (now (buffer .entry)) block) 208 BlockElementsIter.Ended (now (out .entry)) walkAt walkWords (now (slot .entry)) (blockCall (now (buffer .entry)) block (now (slot .entry)) most) (r .code) (r .count) (now (slot .exit)) (now (out .exit)) ⌝ }
+{
+    let phase = phase_in(slot);
+    match phase {
+        PhaseIn::Ended => {
+            return Counted {
+                code: ENDED,
+                count: 0,
+            };
+        }
+        PhaseIn::DenseNodes => return nodes_into(buffer, block, slot, out, most),
+        PhaseIn::Messages(m) => return messages_into(buffer, block, m, slot, out, most),
+        _ => {
+            let state = walk_in(slot);
+            return state_into(buffer, block, state, slot, out, 0, most);
+        }
     }
 }
 
-// The same over the record in a slice: 14 where it is none.
-fn steps_over(
-    buffer: &[u8],
-    rec: &[u8],
-    start: BlockElementsIter,
-    out: &mut [u8],
-    most: usize,
-) -> StepsFilled
-    requires { ⌜ 208 * most ≤ length (now out) ⌝ }
-    ensures { λ r. ⌜ FilledBy (foundBy (now (buffer .entry))) putWords (walkIn (now (buffer .entry)) (now (rec .entry))) 208 BlockElementsIter.Ended (now (out .entry)) (answered most (walkIn (now (buffer .entry)) (now (rec .entry)) start)) (r .code) (r .count) (r .next) (now (out .exit)) ⌝ }
+// A call without a record: 14, but an ended walk stays ended.
+fn none_into(slot: &mut [u8]) -> u32
+    requires { ⌜ 272 ≤ length (now slot) ⌝ }
+    ensures { λ r. ⌜ RefusedInto (now (slot .entry)) r (now (slot .exit)) ⌝ }
 {
-    let r = record_in(rec);
-    match r {
-        RecordIn::Outside => StepsFilled {
-            code: OUTSIDE,
-            count: 0,
-            next: BlockElementsIter::Ended,
-        },
-        RecordIn::Record(block) => fill_from(buffer, block, start, out, most),
+    let phase = phase_in(slot);
+    match phase {
+        PhaseIn::Ended => ENDED,
+        _ => {
+            put_walk(slot, BlockElementsIter::Ended);
+            OUTSIDE
+        }
     }
 }
 
@@ -259,21 +260,15 @@ fn steps_into(buffer: &[u8], rec: &[u8], slot: &mut [u8], out: &mut [u8], most: 
             count: 0,
         };
     }
-    let start = walk_in(slot);
-    match start {
-        BlockElementsIter::Ended => Counted {
-            code: ENDED,
-            count: 0,
-        },
-        _ => {
-            let r = steps_over(buffer, rec, start, out, most);
-            let next = r.next;
-            put_walk(slot, next);
-            Counted {
-                code: r.code,
-                count: r.count,
-            }
+    let r = record_in(rec);
+    match r {
+        RecordIn::Outside => {
+            return Counted {
+                code: none_into(slot),
+                count: 0,
+            };
         }
+        RecordIn::Record(block) => return block_into(buffer, block, slot, out, most),
     }
 }
 

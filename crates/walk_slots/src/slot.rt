@@ -50,7 +50,7 @@ use walk::state::Range;
 
 // What a slot's first numbers tell: the whole state but for the columns of dense nodes. Functions that branch answer this and not the
 // state, which is large (docs/PROVING.md, Walks).
-enum PhaseIn {
+pub enum PhaseIn {
     Ended,
     Between(Between),
     DenseNodes,
@@ -114,7 +114,8 @@ fn range_in(slot: &[u8]) -> GroupRangeAt
     }
 }
 
-fn nodes_in(slot: &[u8]) -> DenseNodeIter
+// The plain dense nodes that a slot's numbers tell of.
+pub fn nodes_in(slot: &[u8]) -> DenseNodeIter
     ensures { λ r. ⌜ r ≡ nodesAt (now (slot .entry)) ⌝ }
 {
     DenseNodeIter {
@@ -201,7 +202,7 @@ fn live_in(slot: &[u8], phase: u64, full: bool) -> PhaseIn
 }
 
 // By the phase and the flag. Of an ended state the other numbers are not looked at.
-fn phase_in(slot: &[u8]) -> PhaseIn
+pub fn phase_in(slot: &[u8]) -> PhaseIn
     ensures { λ r. ⌜ walkBy (now (slot .entry)) r ≡ walkAt (now (slot .entry)) ⌝ }
 {
     let phase = read_u64(slot, 0);
@@ -303,6 +304,33 @@ fn put_full(slot: &mut [u8], f: FullDenseNodeIter)
     put_at(slot, 144, &infos_numbers(f.infos));
 }
 
+// Puts the numbers of a state among plain dense nodes; a slot that is too short for them stays as it was.
+pub fn put_nodes(slot: &mut [u8], d: DenseNodeIter)
+    ensures after { λ r. ⌜ now (slot .exit) ≡ filled (now (slot .entry)) (walkWords (BlockElementsIter.DenseNodes d)) ⌝ }
+    ensures back { λ r. ⌜ (272 ≤ length (now (slot .entry)) → walkAt (now (slot .exit)) ≡ BlockElementsIter.DenseNodes d) ⌝ }
+{
+    put_numbers(slot, &nodes_numbers(d, 0));
+}
+
+// The same among messages.
+pub fn put_messages(slot: &mut [u8], m: Messages)
+    ensures after { λ r. ⌜ now (slot .exit) ≡ filled (now (slot .entry)) (walkWords (BlockElementsIter.Messages m)) ⌝ }
+    ensures back { λ r. ⌜ (272 ≤ length (now (slot .entry)) → walkAt (now (slot .exit)) ≡ BlockElementsIter.Messages m) ⌝ }
+{
+    let kind = m.kind;
+    put_numbers(
+        slot,
+        &[
+            loose_phase(kind),
+            m.full as u64,
+            m.of.group as u64,
+            m.of.start as u64,
+            m.of.len as u64,
+            m.at as u64,
+        ],
+    );
+}
+
 // Puts the numbers of a state into a slot; those that its phase has not stay as they were, and so does a slot that is too short for them.
 pub fn put_walk(slot: &mut [u8], state: BlockElementsIter)
     ensures after { λ r. ⌜ now (slot .exit) ≡ filled (now (slot .entry)) (walkWords state) ⌝ }
@@ -311,21 +339,8 @@ pub fn put_walk(slot: &mut [u8], state: BlockElementsIter)
     match state {
         BlockElementsIter::Ended => put_numbers(slot, &[0]),
         BlockElementsIter::Between(b) => put_numbers(slot, &[1, b.full as u64, b.group as u64]),
-        BlockElementsIter::DenseNodes(d) => put_numbers(slot, &nodes_numbers(d, 0)),
+        BlockElementsIter::DenseNodes(d) => put_nodes(slot, d),
         BlockElementsIter::FullDenseNodes(f) => put_full(slot, f),
-        BlockElementsIter::Messages(m) => {
-            let kind = m.kind;
-            put_numbers(
-                slot,
-                &[
-                    loose_phase(kind),
-                    m.full as u64,
-                    m.of.group as u64,
-                    m.of.start as u64,
-                    m.of.len as u64,
-                    m.at as u64,
-                ],
-            );
-        }
+        BlockElementsIter::Messages(m) => put_messages(slot, m),
     }
 }

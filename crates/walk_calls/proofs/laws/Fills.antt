@@ -1,91 +1,124 @@
--- Laws of the loops of a call: dense nodes one behind the other, and then elements by steps.
-use Prim.Native.Nat.{ℕ, _+_, _*_, _≤_, _<_}
+-- Laws of the loops of a call: elements that follow one another, by whichever way the next one is found; then elements by steps.
+use Prim.Native.Nat.{ℕ, _+_, _-_, _*_, _≤_, _<_}
 use mathlib.Core.Path.{_≡_, refl, sym, ap, _∙_, subst}
 use mathlib.Core.List.{List}
+use mathlib.Core.Bool.{true}
 use native.Mathlib.Omega.{arith}
 use lib.ListN.{length}
+use lib.Dec.{leb, ltb}
+use borrow.Author.Tests.{le-leb}
 use Rattle.protobuf.specs.Stream.{end, more}
 use Rattle.protobuf.specs.Column.{Column}
+use Rattle.fields.specs.declared.part.Part.{Part}
+use Rattle.fields.specs.Outcome.{kept}
 use Rattle.wire.specs.declared.record.WireBlock.{WireBlock}
 use Rattle.lookup.specs.Lookup.{isRecordInside}
+use Rattle.columns.proofs.laws.Inside.{also-true}
+use Rattle.elements.specs.declared.element.Element.{Element}
+use Rattle.elements.specs.Element.{itemOf}
 use Rattle.kinds.specs.declared.state.DenseColumns.{DenseColumns}
+use Rattle.kinds.specs.declared.state.Messages.{Messages}
 use Rattle.kinds.specs.declared.dense_nodes.NextNode.{NextNode}
-use Rattle.kinds.specs.Said.{NodeSaid}
+use Rattle.kinds.specs.Loose.{viewedAs, looseAhead, looseFrom}
+use Rattle.kinds.specs.Said.{atPlace, NodeSaid}
+use Rattle.kinds.proofs.laws.Inside.{both-hold}
+use Rattle.kinds.proofs.laws.Loose.{Finds, loose-inside, found-kept}
 use Rattle.walk.specs.declared.state.DenseNodeIter.{DenseNodeIter}
 use Rattle.walk.specs.declared.state.BlockElementsIter.{BlockElementsIter}
 use Rattle.walk.specs.declared.state.BlockElementsIter.the-variants as walk
-use Rattle.walk.specs.State.{denseInside}
+use Rattle.walk.specs.State.{groupInside, stateInside}
 use Rattle.walk.specs.Walk.{Found, elementsFrom}
 use Rattle.walk.proofs.laws.Inside.{dense-next}
-use Rattle.walk.proofs.laws.Ahead.{group-more}
+use Rattle.walk.proofs.laws.Ahead.{group-more, kind-more}
 use Rattle.walk.proofs.laws.Walking.{both-inside}
 use Rattle.answers.specs.Words.{filledAt}
 use Rattle.answers.proofs.laws.Words.{filled-at-length}
-use Rattle.calls.specs.Calls.{answered}
-use Rattle.calls.specs.Filling.{StopsAt, PutBy, ItemPutBy, FilledBy}
-use Rattle.calls.proofs.laws.Calls.{FillingBy, fill-begins, fill-on, fill-ends, fill-full, puts-item}
-use Rattle.walk_calls.specs.Steps.{foundBy, putWords}
-use Rattle.walk_calls.specs.Fills.{nodePut, atColumns, Fills, FillsUp}
+use Rattle.calls.specs.Filling.{StopsAt, PutBy, ItemPutBy, FillingBy}
+use Rattle.calls.proofs.laws.Calls.{fill-begins, fill-on, fill-ends, fill-full, puts-item}
+use Rattle.walk_calls.specs.Steps.{Put, foundBy, putWords}
+use Rattle.walk_calls.specs.Fills.{nodePut, atColumns, Fills, FillsUp, FillsInside}
 use Rattle.walk_calls.proofs.laws.Steps.{put-small}
 
--- ---- dense nodes
+-- ---- one element more
 
-module _ (s : List ℕ) (r : WireBlock) (most : ℕ) where
-  -- some of the nodes stand in out, and the others are ahead of their columns, which are inside
-  pub record Nodes (d : DenseNodeIter) (out : List ℕ) (n : ℕ) (columns : DenseColumns) (after : List ℕ) : Type 0 where
-    pub filling : Fills s r most (walk.DenseNodes d) out n (walk.DenseNodes (atColumns d columns)) after
-    pub inside : denseInside s r (atColumns d columns) ≡ true
+-- wherever w is inside, what p shows is the first that it has ahead, and v, which is inside too, has the others ahead
+pub record Onward (s : List ℕ) (w : BlockElementsIter) (p : Put) (v : BlockElementsIter) : Type 0 where
+  pub first : (r : WireBlock) → isRecordInside s r ≡ true → stateInside s r w ≡ true → more (foundBy s p) (elementsFrom s r v) ≡ elementsFrom s r w
+  pub inside : (r : WireBlock) → stateInside s r w ≡ true → stateInside s r v ≡ true
 
-  module _ (tables : isRecordInside s r ≡ true) (d : DenseNodeIter) where
-    pub nodes-begin : denseInside s r d ≡ true → {out : List ℕ} → 208 * most ≤ length out → Nodes d out 0 (d .columns) out
-    nodes-begin h room = record { filling = fill-begins putWords (elementsFrom s r) 208 (walk.DenseNodes d) most room; inside = h }
+module _ (s : List ℕ) where
+  -- a dense node
+  pub node-onward : (d : DenseNodeIter) (columns : DenseColumns) (n : NextNode) → NodeSaid s columns n → (n .found ≡ 0 → ⊥)
+      → Onward s (walk.DenseNodes (atColumns d columns)) (nodePut d (columns .keyvals) (n .columns .rows)) (walk.DenseNodes (atColumns d (n .columns)))
+  node-onward d columns n said some =
+      let here = atColumns d columns in
+      let behind = walk.DenseNodes (atColumns d (n .columns)) in
+      let inside : (r : WireBlock) → stateInside s r (walk.DenseNodes here) ≡ true → stateInside s r behind ≡ true = λ r h. dense-next s r here h (n .columns) (said .inside some) in
+      record {
+        first = λ r t h.
+            ap (more (foundBy s (nodePut d (columns .keyvals) (n .columns .rows)))) (sym (both-inside s r behind t (inside r h)))
+            ∙ sym (group-more _ _ _ (sym (said .node some)))
+            ∙ both-inside s r (walk.DenseNodes here) t h;
+        inside = inside;
+      }
 
-    -- the next node is the first element ahead
-    next-ahead : (columns : DenseColumns) (n : NextNode) → denseInside s r (atColumns d columns) ≡ true → NodeSaid s columns n → (n .found ≡ 0 → ⊥)
-        → more (foundBy s (nodePut d (columns .keyvals) (n .columns .rows))) (elementsFrom s r (walk.DenseNodes (atColumns d (n .columns)))) ≡ elementsFrom s r (walk.DenseNodes (atColumns d columns))
-    next-ahead columns n h said some =
-        let here = walk.DenseNodes (atColumns d columns) in
-        let next = walk.DenseNodes (atColumns d (n .columns)) in
-        let behind = dense-next s r (atColumns d columns) h (n .columns) (said .inside some) in
-        ap (more (foundBy s (nodePut d (columns .keyvals) (n .columns .rows)))) (sym (both-inside s r next tables behind))
-        ∙ sym (group-more _ _ _ (sym (said .node some)))
-        ∙ both-inside s r here tables h
+  -- a message that is found, and that its view keeps
+  module _ (m : Messages) {message : Part} (f : Finds s m message) where
+    abbrev behind : ℕ
+    behind = message .start + message .len - m .of .start
 
-    pub nodes-on : {out : List ℕ} {n : ℕ} {columns : DenseColumns} {mid after : List ℕ} → Nodes d out n columns mid → n < most → (next : NextNode) → NodeSaid s columns next → (next .found ≡ 0 → ⊥)
-        → after ≡ filledAt mid (208 * n) (putWords (nodePut d (columns .keyvals) (next .columns .rows))) → Nodes d out (n + 1) (next .columns) after
-    nodes-on {columns = columns} p h next said some e =
+    -- both places are inside the group, and the group in the buffer
+    group-there : (r : WireBlock) → stateInside s r (walk.Messages m) ≡ true → leb (m .of .start + m .of .len) (length s) ≡ true
+    group-there r h = both-hold (ltb (m .of .group) (r .groups)) _ (both-hold (groupInside s r (m .of)) _ h .0) .1
+
+    message-inside : (r : WireBlock) → stateInside s r (walk.Messages m) ≡ true → stateInside s r (walk.Messages (atPlace m behind)) ≡ true
+    message-inside r h = also-true (both-hold (groupInside s r (m .of)) _ h .0) (le-leb behind (m .of .len) (f .within))
+
+    pub message-onward : (e : Element) → viewedAs (m .full) (m .kind) s message ≡ kept (itemOf s e)
+        → Onward s (walk.Messages m) (record { group = m .of .group; message = message; element = e }) (walk.Messages (atPlace m behind))
+    message-onward e k =
         record {
-          filling = fill-on putWords (elementsFrom s r) 208 (p .filling) put-small h (puts-item putWords (elementsFrom s r) (nodePut d (columns .keyvals) (next .columns .rows)) (next-ahead columns next (p .inside) said some) e) refl;
-          inside = dense-next s r (atColumns d columns) (p .inside) (next .columns) (said .inside some);
+          first = λ r t h.
+              let here : looseFrom s m ≡ looseAhead s m = loose-inside s m (also-true (group-there r h) (both-hold (groupInside s r (m .of)) _ h .1)) in
+              let there : looseFrom s (atPlace m behind) ≡ looseAhead s (atPlace m behind) = loose-inside s (atPlace m behind) (also-true (group-there r h) (le-leb behind (m .of .len) (f .within))) in
+              ap (more (foundBy s (record { group = m .of .group; message = message; element = e }))) (sym (both-inside s r (walk.Messages (atPlace m behind)) t (message-inside r h)))
+              ∙ sym (kind-more s r m (m .kind) behind (sym here ∙ found-kept f k ∙ ap (more (record { message = message; item = itemOf s e })) there))
+              ∙ both-inside s r (walk.Messages m) t h;
+          inside = message-inside;
         }
 
--- the same for every record in which the nodes are inside
-pub record NodesRun (s : List ℕ) (most : ℕ) (d : DenseNodeIter) (out : List ℕ) (n : ℕ) (columns : DenseColumns) (after : List ℕ) : Type 0 where
+-- ---- elements that follow one another
+
+-- some of those that w has ahead stand in `after`, and the others are ahead of v
+pub record Elements (s : List ℕ) (most : ℕ) (w : BlockElementsIter) (out : List ℕ) (n : ℕ) (v : BlockElementsIter) (after : List ℕ) : Type 0 where
   pub within : n ≤ most
   pub room : 208 * most ≤ length out
   pub long : length after ≡ length out
-  pub by : (r : WireBlock) → isRecordInside s r ≡ true → denseInside s r d ≡ true → Nodes s r most d out n columns after
+  pub filling : FillsInside s most w out n v after
+  pub inside : (r : WireBlock) → stateInside s r w ≡ true → stateInside s r v ≡ true
 
-module _ (s : List ℕ) (most : ℕ) (d : DenseNodeIter) where
-  pub run-begins : {out : List ℕ} → 208 * most ≤ length out → NodesRun s most d out 0 (d .columns) out
-  run-begins room = record { within = omega arith; room = room; long = refl; by = λ r t h. nodes-begin s r most t d h room }
+module _ (s : List ℕ) (most : ℕ) where
+  pub elements-begin : (w : BlockElementsIter) {out : List ℕ} → 208 * most ≤ length out → Elements s most w out 0 w out
+  elements-begin w room =
+      record { within = omega arith; room = room; long = refl; filling = record { by = λ r t h. fill-begins putWords (elementsFrom s r) 208 w most room }; inside = λ r h. h }
 
-  pub run-on : {out : List ℕ} {n : ℕ} {columns : DenseColumns} {mid after : List ℕ} → NodesRun s most d out n columns mid → n < most → (next : NextNode) → NodeSaid s columns next → (next .found ≡ 0 → ⊥)
-      → after ≡ filledAt mid (208 * n) (putWords (nodePut d (columns .keyvals) (next .columns .rows))) → NodesRun s most d out (n + 1) (next .columns) after
-  run-on {n = n} {columns = columns} {mid = mid} p h next said some e =
-      record {
-        within = omega arith;
-        room = p .room;
-        long = ap length e ∙ filled-at-length mid (208 * n) (putWords (nodePut d (columns .keyvals) (next .columns .rows))) ∙ p .long;
-        by = λ r t k. nodes-on s r most t d (p .by r t k) h next said some e;
-      }
+  module _ {w v : BlockElementsIter} {out : List ℕ} {n : ℕ} {mid : List ℕ} (p : Elements s most w out n v mid) (h : n < most) where
+    pub element-room : 208 * n + 208 ≤ length mid
+    element-room = omega (arith, p .room, p .long)
 
--- a call from a state is one from any state that it is
-pub filled-from : (s : List ℕ) (r : WireBlock) (most : ℕ) {out : List ℕ} {w v : BlockElementsIter} {code count : ℕ} {next : BlockElementsIter} {after : List ℕ} → w ≡ v
-    → FilledBy (foundBy s) putWords (elementsFrom s r) 208 walk.Ended out (answered most (elementsFrom s r v)) code count next after
-    → FilledBy (foundBy s) putWords (elementsFrom s r) 208 walk.Ended out (answered most (elementsFrom s r w)) code count next after
-filled-from s r most {out = out} {code = code} {count = count} {next = next} {after = after} e p =
-    subst (λ (x : BlockElementsIter). FilledBy (foundBy s) putWords (elementsFrom s r) 208 walk.Ended out (answered most (elementsFrom s r x)) code count next after) (sym e) p
+    pub elements-on : (q : Put) {x : BlockElementsIter} {after : List ℕ} → Onward s v q x → after ≡ filledAt mid (208 * n) (putWords q) → Elements s most w out (n + 1) x after
+    elements-on q next e =
+        record {
+          within = omega arith;
+          room = p .room;
+          long = ap length e ∙ filled-at-length mid (208 * n) (putWords q) ∙ p .long;
+          filling = record { by = λ r t k. fill-on putWords (elementsFrom s r) 208 (p .filling .by r t k) put-small h (puts-item putWords (elementsFrom s r) q (next .first r t (p .inside r k)) e) refl };
+          inside = λ r k. next .inside r (p .inside r k);
+        }
+
+-- a slice that is the same
+pub fills-same : {s : List ℕ} {most : ℕ} {w : BlockElementsIter} {out : List ℕ} {n : ℕ} {v : BlockElementsIter} {mid after : List ℕ} → after ≡ mid → FillsInside s most w out n v mid → FillsInside s most w out n v after
+fills-same {s} {most} {w} {out} {n} {v} e p = subst (FillsInside s most w out n v) (sym e) p
 
 -- ---- elements by steps, behind those that stand there
 
@@ -120,8 +153,8 @@ module _ (s : List ℕ) (r : WireBlock) (most : ℕ) where
 
     module _ {code count : ℕ} {next : BlockElementsIter} where
       pub goes-ends : m < most → {told : ℕ} {same : BlockElementsIter} {after : List ℕ} → ItemPutBy (foundBy s) putWords (elementsFrom s r) v mid (208 * m) told same after → (told ≡ 0 → ⊥) → StopsAt walk.Ended told m v code count next
-          → FillsUp s r most n w out code count next after
+          → FillsUp s (elementsFrom s r) most n w out code count next after
       goes-ends h put some q = record { on = λ c begun k. fill-ends putWords (elementsFrom s r) 208 (p .on c begun k) walk.Ended h put some q }
 
-      pub goes-full : most ≤ m → StopsAt walk.Ended 14 m v code count next → FillsUp s r most n w out code count next mid
+      pub goes-full : most ≤ m → StopsAt walk.Ended 14 m v code count next → FillsUp s (elementsFrom s r) most n w out code count next mid
       goes-full h q = record { on = λ c begun k. fill-full putWords (elementsFrom s r) 208 (p .on c begun k) walk.Ended h q }

@@ -2,8 +2,8 @@
 use borrow.Author.Needs.{needs}
 use mir.Syntax.{w64}
 use Rattle.answers.proofs.laws.Signed.{as-word}
-use Rattle.walk_calls.proofs.steps.put_node.Statement.{statement}
-use Rattle.walk_calls.proofs.steps.put_node.Tie as tie
+use Rattle.walk_calls.proofs.nodes.put_node.Statement.{statement}
+use Rattle.walk_calls.proofs.nodes.put_node.Tie as tie
 
 pub put-node-spec : {M : Type 1} → statement M
 put-node-spec =
