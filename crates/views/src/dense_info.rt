@@ -9,11 +9,11 @@ ghost use Rattle.fields.specs.Schema.{denseInfo};
 ghost use Rattle.views.specs.DenseInfo.{denseInfoOf, denseInfoAt, parsedDenseInfo};
 use crate::slots::Status;
 use crate::slots::View;
+use crate::slots::part_in;
 use crate::slots::read_view;
 use fields::part::Part;
 use fields::schema::dense_info;
 use fields::slot::Rule;
-use fields::slot::Slot;
 use protobuf::refusal::Refusal;
 
 // `user` is user_sid.
@@ -47,28 +47,16 @@ pub(crate) fn dense_info_rule(tag: u32) -> Rule
 }
 
 // The slots by name and type.
-fn dense_info_of(v: [Slot; 11]) -> WireDenseInfo
-    ensures { λ r. ⌜ r ≡ denseInfoOf (slotsOf v) ⌝ }
+fn dense_info_of(v: &[u64; 44]) -> WireDenseInfo
+    ensures { λ r. ⌜ r ≡ denseInfoOf (slotsOf (now (v .entry))) ⌝ }
 {
-    let version = v[1];
-    let version = version.part;
-    let timestamp = v[2];
-    let timestamp = timestamp.part;
-    let changeset = v[3];
-    let changeset = changeset.part;
-    let uid = v[4];
-    let uid = uid.part;
-    let user = v[5];
-    let user = user.part;
-    let visible = v[6];
-    let visible = visible.part;
     WireDenseInfo {
-        version,
-        timestamp,
-        changeset,
-        uid,
-        user,
-        visible,
+        version: part_in(v, 1),
+        timestamp: part_in(v, 2),
+        changeset: part_in(v, 3),
+        uid: part_in(v, 4),
+        user: part_in(v, 5),
+        visible: part_in(v, 6),
     }
 }
 
@@ -78,12 +66,11 @@ impl WireDenseInfo {
     pub fn parse(buffer: &[u8], start: usize, len: usize) -> DenseInfoParse
         ensures { λ r. ⌜ parsedDenseInfo r ≡ each (denseInfoAt start) (viewIn denseInfo (now (buffer .entry)) start len) ⌝ }
     {
-        let r = read_view(buffer, start, len, View::DenseInfo);
-        let v = r.slots;
-        let status = r.status;
+        let mut v = [0; 44];
+        let status = read_view(buffer, start, len, View::DenseInfo, &mut v);
         match status {
             Status::Refused(n) => DenseInfoParse::Refused(n),
-            Status::Kept => DenseInfoParse::Parsed(dense_info_of(v)),
+            Status::Kept => DenseInfoParse::Parsed(dense_info_of(&v)),
         }
     }
 }

@@ -9,11 +9,11 @@ ghost use Rattle.fields.specs.Schema.{denseNodes};
 ghost use Rattle.views.specs.DenseNodes.{denseNodesOf, denseNodesAt, parsedDenseNodes};
 use crate::slots::Status;
 use crate::slots::View;
+use crate::slots::part_in;
 use crate::slots::read_view;
 use fields::part::Part;
 use fields::schema::dense_nodes;
 use fields::slot::Rule;
-use fields::slot::Slot;
 use protobuf::refusal::Refusal;
 
 // `keyvals` is keys_vals.
@@ -45,25 +45,15 @@ pub(crate) fn dense_nodes_rule(tag: u32) -> Rule
 }
 
 // The slots by name and type.
-fn dense_nodes_of(v: [Slot; 11]) -> WireDenseNodes
-    ensures { λ r. ⌜ r ≡ denseNodesOf (slotsOf v) ⌝ }
+fn dense_nodes_of(v: &[u64; 44]) -> WireDenseNodes
+    ensures { λ r. ⌜ r ≡ denseNodesOf (slotsOf (now (v .entry))) ⌝ }
 {
-    let id = v[1];
-    let id = id.part;
-    let info = v[5];
-    let info = info.part;
-    let lat = v[8];
-    let lat = lat.part;
-    let lon = v[9];
-    let lon = lon.part;
-    let keyvals = v[10];
-    let keyvals = keyvals.part;
     WireDenseNodes {
-        id,
-        info,
-        lat,
-        lon,
-        keyvals,
+        id: part_in(v, 1),
+        info: part_in(v, 5),
+        lat: part_in(v, 8),
+        lon: part_in(v, 9),
+        keyvals: part_in(v, 10),
     }
 }
 
@@ -73,12 +63,11 @@ impl WireDenseNodes {
     pub fn parse(buffer: &[u8], start: usize, len: usize) -> DenseNodesParse
         ensures { λ r. ⌜ parsedDenseNodes r ≡ each (denseNodesAt start) (viewIn denseNodes (now (buffer .entry)) start len) ⌝ }
     {
-        let r = read_view(buffer, start, len, View::DenseNodes);
-        let v = r.slots;
-        let status = r.status;
+        let mut v = [0; 44];
+        let status = read_view(buffer, start, len, View::DenseNodes, &mut v);
         match status {
             Status::Refused(n) => DenseNodesParse::Refused(n),
-            Status::Kept => DenseNodesParse::Parsed(dense_nodes_of(v)),
+            Status::Kept => DenseNodesParse::Parsed(dense_nodes_of(&v)),
         }
     }
 }

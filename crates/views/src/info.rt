@@ -1,18 +1,18 @@
 // Info: the metadata of a node, a way or a relation.
 ghost use mathlib.Core.Path.{_≡_};
+ghost use Prim.Native.Nat.{_<_};
 ghost use Rattle.fields.specs.Outcome.{each};
 ghost use Rattle.fields.specs.View.{viewIn};
 ghost use Rattle.protobuf.specs.Tag.{split};
 ghost use Rattle.fields.specs.Slot.{ruleBy, ruleFor};
-ghost use Rattle.views.specs.Slots.{slotsOf};
+ghost use Rattle.views.specs.Slots.{slotAt, slotsOf};
 ghost use Rattle.fields.specs.Schema.{info};
-ghost use Rattle.views.specs.Info.{infoFields, int32Of, int64Of, boolOf, unlessMinusOne, infoOf, parsedInfo};
+ghost use Rattle.views.specs.Info.{scalarOf, infoFields, int32Of, int64Of, boolOf, unlessMinusOne, infoOf, parsedInfo};
 use crate::slots::Status;
 use crate::slots::View;
 use crate::slots::read_view;
 use fields::schema::info;
 use fields::slot::Rule;
-use fields::slot::Slot;
 use numbers::signed::int32;
 use numbers::signed::int64;
 use protobuf::refusal::Refusal;
@@ -145,53 +145,28 @@ fn unless_minus_one64(x: Scalar) -> Scalar
     }
 }
 
-// The slots by name.
-fn info_fields(v: [Slot; 11]) -> InfoFields
-    ensures { λ r. ⌜ r ≡ infoFields (slotsOf v) ⌝ }
+// The number at a place, and whether it was read.
+fn scalar_in(v: &[u64; 44], k: usize) -> Scalar
+    requires { ⌜ k < 11 ⌝ }
+    ensures { λ r. ⌜ r ≡ scalarOf (slotAt (now (v .entry)) k) ⌝ }
 {
-    let version = v[1];
-    let read = version.part;
-    let version = Scalar {
-        present: read.present,
-        value: version.value,
-    };
-    let timestamp = v[2];
-    let read = timestamp.part;
-    let timestamp = Scalar {
-        present: read.present,
-        value: timestamp.value,
-    };
-    let changeset = v[3];
-    let read = changeset.part;
-    let changeset = Scalar {
-        present: read.present,
-        value: changeset.value,
-    };
-    let uid = v[4];
-    let read = uid.part;
-    let uid = Scalar {
-        present: read.present,
-        value: uid.value,
-    };
-    let user = v[5];
-    let read = user.part;
-    let user = Scalar {
-        present: read.present,
-        value: user.value,
-    };
-    let visible = v[6];
-    let read = visible.part;
-    let visible = Scalar {
-        present: read.present,
-        value: visible.value,
-    };
+    Scalar {
+        present: v[4 * k + 1] != 0,
+        value: v[4 * k],
+    }
+}
+
+// The slots by name.
+fn info_fields(v: &[u64; 44]) -> InfoFields
+    ensures { λ r. ⌜ r ≡ infoFields (slotsOf (now (v .entry))) ⌝ }
+{
     InfoFields {
-        version,
-        timestamp,
-        changeset,
-        uid,
-        user,
-        visible,
+        version: scalar_in(v, 1),
+        timestamp: scalar_in(v, 2),
+        changeset: scalar_in(v, 3),
+        uid: scalar_in(v, 4),
+        user: scalar_in(v, 5),
+        visible: scalar_in(v, 6),
     }
 }
 
@@ -235,12 +210,11 @@ impl WireInfo {
     pub fn parse(buffer: &[u8], start: usize, len: usize) -> InfoParse
         ensures { λ r. ⌜ parsedInfo r ≡ each (λ slots. infoOf (infoFields slots)) (viewIn info (now (buffer .entry)) start len) ⌝ }
     {
-        let r = read_view(buffer, start, len, View::Info);
-        let v = r.slots;
-        let status = r.status;
+        let mut v = [0; 44];
+        let status = read_view(buffer, start, len, View::Info, &mut v);
         match status {
             Status::Refused(n) => InfoParse::Refused(n),
-            Status::Kept => InfoParse::Parsed(info_of(info_fields(v))),
+            Status::Kept => InfoParse::Parsed(info_of(info_fields(&v))),
         }
     }
 }

@@ -9,11 +9,12 @@ ghost use Rattle.fields.specs.Schema.{node};
 ghost use Rattle.views.specs.Node.{nodeOf, nodeAt, parsedNode};
 use crate::slots::Status;
 use crate::slots::View;
+use crate::slots::part_in;
 use crate::slots::read_view;
+use crate::slots::slot_in;
 use fields::part::Part;
 use fields::schema::node;
 use fields::slot::Rule;
-use fields::slot::Slot;
 use numbers::signed::zigzag_i64;
 use protobuf::refusal::Refusal;
 
@@ -47,25 +48,19 @@ pub(crate) fn node_rule(tag: u32) -> Rule
 }
 
 // The slots by name and type.
-fn node_of(v: [Slot; 11]) -> WireNode
-    ensures { λ r. ⌜ r ≡ nodeOf (slotsOf v) ⌝ }
+fn node_of(v: &[u64; 44]) -> WireNode
+    ensures { λ r. ⌜ r ≡ nodeOf (slotsOf (now (v .entry))) ⌝ }
 {
-    let id = v[1].value;
-    let lat = v[8].value;
-    let lon = v[9].value;
-    let keys = v[2];
-    let keys = keys.part;
-    let vals = v[3];
-    let vals = vals.part;
-    let info = v[4];
-    let info = info.part;
+    let id = slot_in(v, 1);
+    let lat = slot_in(v, 8);
+    let lon = slot_in(v, 9);
     WireNode {
-        id: zigzag_i64(id),
-        lat: zigzag_i64(lat),
-        lon: zigzag_i64(lon),
-        keys,
-        vals,
-        info,
+        id: zigzag_i64(id.value),
+        lat: zigzag_i64(lat.value),
+        lon: zigzag_i64(lon.value),
+        keys: part_in(v, 2),
+        vals: part_in(v, 3),
+        info: part_in(v, 4),
     }
 }
 
@@ -75,12 +70,11 @@ impl WireNode {
     pub fn parse(buffer: &[u8], start: usize, len: usize) -> NodeParse
         ensures { λ r. ⌜ parsedNode r ≡ each (nodeAt start) (viewIn node (now (buffer .entry)) start len) ⌝ }
     {
-        let r = read_view(buffer, start, len, View::Node);
-        let v = r.slots;
-        let status = r.status;
+        let mut v = [0; 44];
+        let status = read_view(buffer, start, len, View::Node, &mut v);
         match status {
             Status::Refused(n) => NodeParse::Refused(n),
-            Status::Kept => NodeParse::Parsed(node_of(v)),
+            Status::Kept => NodeParse::Parsed(node_of(&v)),
         }
     }
 }

@@ -9,11 +9,12 @@ ghost use Rattle.fields.specs.Schema.{relation};
 ghost use Rattle.views.specs.Relation.{relationOf, relationAt, parsedRelation};
 use crate::slots::Status;
 use crate::slots::View;
+use crate::slots::part_in;
 use crate::slots::read_view;
+use crate::slots::slot_in;
 use fields::part::Part;
 use fields::schema::relation;
 use fields::slot::Rule;
-use fields::slot::Slot;
 use numbers::signed::int64;
 use protobuf::refusal::Refusal;
 
@@ -49,30 +50,18 @@ pub(crate) fn relation_rule(tag: u32) -> Rule
 }
 
 // The slots by name and type.
-fn relation_of(v: [Slot; 11]) -> WireRelation
-    ensures { λ r. ⌜ r ≡ relationOf (slotsOf v) ⌝ }
+fn relation_of(v: &[u64; 44]) -> WireRelation
+    ensures { λ r. ⌜ r ≡ relationOf (slotsOf (now (v .entry))) ⌝ }
 {
-    let id = v[1].value;
-    let keys = v[2];
-    let keys = keys.part;
-    let vals = v[3];
-    let vals = vals.part;
-    let info = v[4];
-    let info = info.part;
-    let roles = v[8];
-    let roles = roles.part;
-    let memids = v[9];
-    let memids = memids.part;
-    let types = v[10];
-    let types = types.part;
+    let id = slot_in(v, 1);
     WireRelation {
-        id: int64(id),
-        keys,
-        vals,
-        info,
-        roles,
-        memids,
-        types,
+        id: int64(id.value),
+        keys: part_in(v, 2),
+        vals: part_in(v, 3),
+        info: part_in(v, 4),
+        roles: part_in(v, 8),
+        memids: part_in(v, 9),
+        types: part_in(v, 10),
     }
 }
 
@@ -82,12 +71,11 @@ impl WireRelation {
     pub fn parse(buffer: &[u8], start: usize, len: usize) -> RelationParse
         ensures { λ r. ⌜ parsedRelation r ≡ each (relationAt start) (viewIn relation (now (buffer .entry)) start len) ⌝ }
     {
-        let r = read_view(buffer, start, len, View::Relation);
-        let v = r.slots;
-        let status = r.status;
+        let mut v = [0; 44];
+        let status = read_view(buffer, start, len, View::Relation, &mut v);
         match status {
             Status::Refused(n) => RelationParse::Refused(n),
-            Status::Kept => RelationParse::Parsed(relation_of(v)),
+            Status::Kept => RelationParse::Parsed(relation_of(&v)),
         }
     }
 }

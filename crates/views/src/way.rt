@@ -10,11 +10,12 @@ ghost use Rattle.views.specs.Way.{wayOf, wayAt, parsedWay};
 use crate::slots::PLACE_20;
 use crate::slots::Status;
 use crate::slots::View;
+use crate::slots::part_in;
 use crate::slots::read_view;
+use crate::slots::slot_in;
 use fields::part::Part;
 use fields::schema::way;
 use fields::slot::Rule;
-use fields::slot::Slot;
 use numbers::signed::int64;
 use protobuf::refusal::Refusal;
 
@@ -52,33 +53,19 @@ pub(crate) fn way_rule(tag: u32) -> Rule
 }
 
 // The slots by name and type.
-fn way_of(v: [Slot; 11]) -> WireWay
-    ensures { λ r. ⌜ r ≡ wayOf (slotsOf v) ⌝ }
+fn way_of(v: &[u64; 44]) -> WireWay
+    ensures { λ r. ⌜ r ≡ wayOf (slotsOf (now (v .entry))) ⌝ }
 {
-    let id = v[1].value;
-    let keys = v[2];
-    let keys = keys.part;
-    let vals = v[3];
-    let vals = vals.part;
-    let info = v[4];
-    let info = info.part;
-    let refs = v[8];
-    let refs = refs.part;
-    let lat = v[9];
-    let lat = lat.part;
-    let lon = v[10];
-    let lon = lon.part;
-    let pins = v[PLACE_20];
-    let pins = pins.part;
+    let id = slot_in(v, 1);
     WireWay {
-        id: int64(id),
-        keys,
-        vals,
-        info,
-        refs,
-        lat,
-        lon,
-        pins,
+        id: int64(id.value),
+        keys: part_in(v, 2),
+        vals: part_in(v, 3),
+        info: part_in(v, 4),
+        refs: part_in(v, 8),
+        lat: part_in(v, 9),
+        lon: part_in(v, 10),
+        pins: part_in(v, PLACE_20),
     }
 }
 
@@ -88,12 +75,11 @@ impl WireWay {
     pub fn parse(buffer: &[u8], start: usize, len: usize) -> WayParse
         ensures { λ r. ⌜ parsedWay r ≡ each (wayAt start) (viewIn way (now (buffer .entry)) start len) ⌝ }
     {
-        let r = read_view(buffer, start, len, View::Way);
-        let v = r.slots;
-        let status = r.status;
+        let mut v = [0; 44];
+        let status = read_view(buffer, start, len, View::Way, &mut v);
         match status {
             Status::Refused(n) => WayParse::Refused(n),
-            Status::Kept => WayParse::Parsed(way_of(v)),
+            Status::Kept => WayParse::Parsed(way_of(&v)),
         }
     }
 }

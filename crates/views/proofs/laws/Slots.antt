@@ -1,13 +1,14 @@
--- Laws of the slots as the code keeps them: what storing a field does to the array, the loop, and what is handed out.
-use Prim.Native.Nat.{ℕ, zero, suc, _+_, _<_}
+-- Laws of the slots as the code keeps them: what storing a field does to the array's numbers, the loop, and what is handed out.
+use Prim.Native.Nat.{ℕ, zero, suc, _+_, _*_, _<_}
 use mathlib.Core.Path.{_≡_, refl, sym, ap, _∙_, subst}
 use mathlib.Core.List.{List, [], _∷_}
-use mathlib.Core.Bool.{Bool, true, false}
+use mathlib.Core.Bool.{Bool, true, false, not}
 use native.Mathlib.Omega.{arith}
 use lib.Dec.{eqb, ltb, leb}
 use lib.ListN.{length, getD, set, replicate, length-set}
 use lib.Seq.{getD-set-same, getD-set-other}
-use borrow.Author.Tests.{eqb-true, eqb-false, ltb-true}
+use mir.Val.{boolByte}
+use borrow.Author.Tests.{eqb-true, eqb-false, eq-eqb, ne-eqb, ltb-true}
 use Rattle.protobuf.specs.declared.refusal.Refusal.{Refusal}
 use Rattle.protobuf.specs.declared.refusal.Refusal.the-variants.{Outside, SecondColumn, SecondInfo}
 use Rattle.numbers.specs.Choose.{choose}
@@ -22,7 +23,6 @@ use Rattle.fields.specs.declared.part.Part.{Part}
 use Rattle.fields.specs.declared.slot.Slot.{Slot}
 use Rattle.views.specs.declared.slots.Status.{Status}
 use Rattle.views.specs.declared.slots.Status.the-variants as status
-use Rattle.views.specs.declared.slots.Filled.{Filled}
 use Rattle.fields.specs.declared.slot.Rule.{Rule}
 use Rattle.fields.specs.declared.slot.Rule.the-variants as rule
 use Rattle.views.specs.declared.slots.View.{View}
@@ -31,7 +31,7 @@ use Rattle.fields.specs.Outcome.{Outcome, kept, refused, onward, each}
 use Rattle.fields.specs.Part.{noPart, partBy, moved}
 use Rattle.fields.specs.View.{Row, Schema, takes, slotBy, Slots, empty, with, columnPart, infoPart, put, store, view, viewFrom, viewIn, movedSlot, movedSlots}
 use Rattle.fields.specs.Slot.{placed, ruleFor, ruleBy, placeOf, putBy}
-use Rattle.views.specs.Slots.{schemaOf, slotsOf, filledBy, filledOf}
+use Rattle.views.specs.Slots.{schemaOf, slotOf, slotAt, slotsOf, filledBy}
 use Rattle.fields.proofs.laws.Outcome.{each-refused, each-kept, If, if-kept}
 use Rattle.fields.proofs.laws.View.{storeBy, stored-by, view-outside, view-inside}
 use Rattle.fields.proofs.laws.Within.{store-holds}
@@ -146,39 +146,102 @@ put-moved (rule.Message k) base old value start len h = slot-moved base value (i
 put-moved (rule.Bytes k) base old value start len h = refl
 put-moved rule.Pass base old value start len h = refl
 
+-- ---- the numbers of the array
+
+none-in : (n m : ℕ) → _≡_ {A = ℕ} (getD (replicate n 0) m 0) 0
+none-in zero m = refl
+none-in (suc n) zero = refl
+none-in (suc n) (suc m) = none-in n m
+
+slots-none : (n : ℕ) → slotsOf (replicate n 0) ≡ empty
+slots-none n i k = let at : ℕ → ℕ = λ m. none-in n m i in slotOf (at (4 * placed k)) (at (4 * placed k + 1)) (at (4 * placed k + 2)) (at (4 * placed k + 3))
+
+-- four numbers are stored at place k: they make its slot, and no other place changes
+module _ (v : List ℕ) (k a b c d : ℕ) where
+  abbrev v1 : List ℕ
+  v1 = set v (4 * k) a
+
+  abbrev v2 : List ℕ
+  v2 = set v1 (4 * k + 1) b
+
+  abbrev v3 : List ℕ
+  v3 = set v2 (4 * k + 2) c
+
+  abbrev v4 : List ℕ
+  v4 = set v3 (4 * k + 3) d
+
+  beside : (m : ℕ) → ((i : ℕ) → i < 4 → m ≡ 4 * k + i → ⊥) → getD v4 m 0 ≡ getD v m 0
+  beside m h =
+      getD-set-other v3 (4 * k + 3) m d 0 (λ e. h 3 (omega arith) e)
+      ∙ getD-set-other v2 (4 * k + 2) m c 0 (λ e. h 2 (omega arith) e)
+      ∙ getD-set-other v1 (4 * k + 1) m b 0 (λ e. h 1 (omega arith) e)
+      ∙ getD-set-other v (4 * k) m a 0 (λ e. h 0 (omega arith) (omega arith))
+
+  other-place : (j : ℕ) → (j ≡ k → ⊥) → slotAt v4 j ≡ slotAt v j
+  other-place j h i =
+      slotOf
+      (beside (4 * j) (λ n g e. h (omega arith)) i)
+      (beside (4 * j + 1) (λ n g e. h (omega arith)) i)
+      (beside (4 * j + 2) (λ n g e. h (omega arith)) i)
+      (beside (4 * j + 3) (λ n g e. h (omega arith)) i)
+
+  own-place : 4 * k + 3 < length v → slotAt v4 k ≡ slotOf a b c d
+  own-place h i = slotOf (first i) (second i) (third i) (fourth i)
+    where
+      first : getD v4 (4 * k) 0 ≡ a
+      first =
+          getD-set-other v3 (4 * k + 3) (4 * k) d 0 (λ e. omega arith)
+          ∙ getD-set-other v2 (4 * k + 2) (4 * k) c 0 (λ e. omega arith)
+          ∙ getD-set-other v1 (4 * k + 1) (4 * k) b 0 (λ e. omega arith)
+          ∙ getD-set-same v (4 * k) a 0 (omega arith)
+
+      second : getD v4 (4 * k + 1) 0 ≡ b
+      second =
+          getD-set-other v3 (4 * k + 3) (4 * k + 1) d 0 (λ e. omega arith)
+          ∙ getD-set-other v2 (4 * k + 2) (4 * k + 1) c 0 (λ e. omega arith)
+          ∙ getD-set-same v1 (4 * k + 1) b 0 (simp length-set (omega arith))
+
+      third : getD v4 (4 * k + 2) 0 ≡ c
+      third = getD-set-other v3 (4 * k + 3) (4 * k + 2) d 0 (λ e. omega arith) ∙ getD-set-same v2 (4 * k + 2) c 0 (simp length-set (omega arith))
+
+      fourth : getD v4 (4 * k + 3) 0 ≡ d
+      fourth = getD-set-same v3 (4 * k + 3) d 0 (simp length-set (omega arith))
+
+  at-place : 4 * k + 3 < length v → {x : Slot} → slotOf a b c d ≡ x → (j : ℕ) (t : Bool) → eqb j k ≡ t → slotAt v4 j ≡ choose t x (slotAt v j)
+  at-place h e j true g = ap (slotAt v4) (eqb-true j k g) ∙ own-place h ∙ e
+  at-place h e j false g = other-place j (eqb-false j k g)
+
+flag-back : (p : Bool) → not (eqb (boolByte p) 0) ≡ p
+flag-back true = refl
+flag-back false = refl
+
+-- a slot is stored at a place: that place has it, and no other changes
+pub put-at-place : (v : List ℕ) (k : ℕ) (x : Slot) → 4 * k + 3 < length v → slotAt (v4 v k (x .value) (boolByte (x .part .present)) (x .part .start) (x .part .len)) ≡ with (slotAt v) k x
+put-at-place v k x h i j = at-place v k (x .value) (boolByte (x .part .present)) (x .part .start) (x .part .len) h same j (eqb j k) refl i
+  where
+    same : slotOf (x .value) (boolByte (x .part .present)) (x .part .start) (x .part .len) ≡ x
+    same i = slotBy (x .value) (record { present = flag-back (x .part .present) i; start = x .part .start; len = x .part .len })
+
 -- ---- the array
 
 -- the array holds these slots, moved by base
-pub record Holds (base : ℕ) (slots : Slots) (v : List Slot) : Type 0 where
-  pub size : length v ≡ 11
+pub record Holds (base : ℕ) (slots : Slots) (v : List ℕ) : Type 0 where
+  pub size : length v ≡ 44
   pub is : slotsOf v ≡ movedSlots base slots
   pub sound : (k : ℕ) → Sound base (slots k .part)
 
-abbrev none : Slot
-none = slotBy 0 noPart
-
-none-in : (n k : ℕ) → getD (replicate n none) k none ≡ none
-none-in zero k = refl
-none-in (suc n) zero = refl
-none-in (suc n) (suc k) = none-in n k
-
-pub holds-none : (base : ℕ) → Holds base empty (replicate 11 none)
-holds-none base = record { size = refl; is = λ i k. none-in 11 (placed k) i; sound = λ k. refl }
-
-slots-set : (base : ℕ) (slots : Slots) (v : List Slot) (k : ℕ) (a : Slot) → Holds base slots v → k < 11 → slotsOf (set v k (movedSlot base a)) ≡ movedSlots base (with slots (placed k) a)
-slots-set base slots v k a h g i j = by (eqb j (placed k)) refl i
+slots-set : (base : ℕ) (slots : Slots) (v w : List ℕ) (k : ℕ) (a : Slot) → Holds base slots v → slotAt w ≡ with (slotAt v) k (movedSlot base a) → slotsOf w ≡ movedSlots base (with slots (placed k) a)
+slots-set base slots v w k a h g i j = (ap (λ (s : Slots). s (placed j)) g ∙ by (eqb j (placed k)) refl) i
   where
-    by : (b : Bool) → eqb j (placed k) ≡ b → getD (set v k (movedSlot base a)) (placed j) none ≡ movedSlot base (choose b a (slots j))
-    by true e =
-        ap (λ (n : ℕ). getD (set v k (movedSlot base a)) n none) (ap placed (eqb-true j (placed k) e) ∙ placed-back k)
-        ∙ getD-set-same v k (movedSlot base a) none (omega (arith, h .size))
+    by : (b : Bool) → eqb j (placed k) ≡ b → choose (eqb (placed j) k) (movedSlot base a) (slotAt v (placed j)) ≡ movedSlot base (choose b a (slots j))
+    by true e = ap (λ (t : Bool). choose t (movedSlot base a) (slotAt v (placed j))) (eq-eqb (placed j) k (ap placed (eqb-true j (placed k) e) ∙ placed-back k))
     by false e =
-        getD-set-other v k (placed j) (movedSlot base a) none (λ g. eqb-false j (placed k) e (sym (placed-back j) ∙ ap placed g))
+        ap (λ (t : Bool). choose t (movedSlot base a) (slotAt v (placed j))) (ne-eqb (placed j) k (λ g. eqb-false j (placed k) e (sym (placed-back j) ∙ ap placed g)))
         ∙ ap (λ (s : Slots). s j) (h .is)
 
 -- ---- one field
 
-module _ (base : ℕ) (schema : Schema) {slots : Slots} {v : List Slot} (h : Holds base slots v) (t : Rule) (k tag value start len : ℕ) (at : k ≡ placeOf t) (r : ruleBy t ≡ ruleFor schema (split tag)) {out : Outcome Slot} (o : out ≡ putBy t (getD v k none) (payloadOf value (base + start) len)) where
+module _ (base : ℕ) (schema : Schema) {slots : Slots} {v : List ℕ} (h : Holds base slots v) (t : Rule) (k tag value start len : ℕ) (at : k ≡ placeOf t) (r : ruleBy t ≡ ruleFor schema (split tag)) {old : Slot} (was : old ≡ slotAt v k) {out : Outcome Slot} (o : out ≡ putBy t old (payloadOf value (base + start) len)) where
   abbrev field : ℕ
   field = placed k
 
@@ -189,7 +252,7 @@ module _ (base : ℕ) (schema : Schema) {slots : Slots} {v : List Slot} (h : Hol
   given =
       sym
       (o
-      ∙ ap (λ (n : ℕ). putBy t (getD v n none) (payloadOf value (base + start) len)) (sym (placed-back k))
+      ∙ ap (λ (x : Slot). putBy t x (payloadOf value (base + start) len)) (was ∙ ap (slotAt v) (sym (placed-back k)))
       ∙ ap (λ (s : Slots). putBy t (s field) (payloadOf value (base + start) len)) (h .is)
       ∙ put-moved t base (slots field) value start len (h .sound field))
 
@@ -197,17 +260,17 @@ module _ (base : ℕ) (schema : Schema) {slots : Slots} {v : List Slot} (h : Hol
   unfolding each
   field-refused g = here ∙ ap (each (with slots field)) (each-refused (movedSlot base) (putBy t (slots field) (payloadOf value start len)) (given ∙ g))
 
-  pub field-kept : {x : Slot} → out ≡ kept x → k < 11 → (slots′ : Slots) × (store schema slots (fieldBy tag value start len) ≡ kept slots′) × Holds base slots′ (set v k x)
+  pub field-kept : {x : Slot} → out ≡ kept x → (w : List ℕ) → length w ≡ 44 → slotAt w ≡ with (slotAt v) k x → (slots′ : Slots) × (store schema slots (fieldBy tag value start len) ≡ kept slots′) × Holds base slots′ w
   unfolding each
-  field-kept {x} g b =
+  field-kept {x} g w n b =
       let y = each-kept (movedSlot base) (putBy t (slots field) (payloadOf value start len)) (given ∙ g) in
       let next = with slots field (y .0) in
       let e : store schema slots (fieldBy tag value start len) ≡ kept next = here ∙ ap (each (with slots field)) (y .1) in (
         next,
         e,
         record {
-          size = length-set v k x ∙ h .size;
-          is = ap (λ (z : Slot). slotsOf (set v k z)) (sym (y .2)) ∙ slots-set base slots v k (y .0) h b;
+          size = n;
+          is = slots-set base slots v w k (y .0) h (b ∙ ap (with (slotAt v) k) (sym (y .2)));
           sound = if-kept (subst (If (λ (s : Slots). (j : ℕ) → Sound base (s j .part))) e (store-holds (Sound base) (start + len) (λ start len z. refl) schema slots (fieldBy tag value start len) (h .sound) (omega arith)));
         },
       )
@@ -215,17 +278,17 @@ module _ (base : ℕ) (schema : Schema) {slots : Slots} {v : List Slot} (h : Hol
 -- ---- the loop
 
 -- the fields up to p have given what the array holds
-pub record Filling (base : ℕ) (schema : Schema) (s : List ℕ) (v : List Slot) (p : ℕ) : Type 0 where
+pub record Filling (base : ℕ) (schema : Schema) (s : List ℕ) (v : List ℕ) (p : ℕ) : Type 0 where
   pub slots : Slots
   pub holds : Holds base slots v
   pub so : view schema s ≡ viewFrom schema slots (messageFrom s p)
 
 module _ (base : ℕ) (schema : Schema) (s : List ℕ) where
-  pub begins : Filling base schema s (replicate 11 none) 0
+  pub begins : {v : List ℕ} → v ≡ replicate 44 0 → Filling base schema s v 0
   unfolding view
-  begins = record { slots = empty; holds = holds-none base; so = refl }
+  begins e = record { slots = empty; holds = record { size = ap length e; is = ap slotsOf e ∙ slots-none 44; sound = λ k. refl }; so = refl }
 
-  module _ {v : List Slot} {p : ℕ} (w : Filling base schema s v p) where
+  module _ {v : List ℕ} {p : ℕ} (w : Filling base schema s v p) where
     from-item : {i : Item Field MessageEnd} → fieldAt s p ≡ i → view schema s ≡ viewFrom schema (w .slots) (follow i (messageFrom s))
     from-item e = w .so ∙ ap (viewFrom schema (w .slots)) (message-from s p ∙ ap (λ i. follow i (messageFrom s)) e)
 
@@ -241,15 +304,15 @@ module _ (base : ℕ) (schema : Schema) (s : List ℕ) where
     unfolding viewFrom each
     spoilt-off e = sym (ap (each (movedSlots base)) (from-item e))
 
-    module _ (t : Rule) (k tag value start len : ℕ) {q : ℕ} (at : k ≡ placeOf t) (e : fieldAt s p ≡ item (fieldBy tag value start len) q) (r : ruleBy t ≡ ruleFor schema (split tag)) {out : Outcome Slot} (o : out ≡ putBy t (getD v k none) (payloadOf value (base + start) len)) where
+    module _ (t : Rule) (k tag value start len : ℕ) {q : ℕ} (at : k ≡ placeOf t) (e : fieldAt s p ≡ item (fieldBy tag value start len) q) (r : ruleBy t ≡ ruleFor schema (split tag)) {old : Slot} (was : old ≡ slotAt v k) {out : Outcome Slot} (o : out ≡ putBy t old (payloadOf value (base + start) len)) where
       pub not-stored : {n : Refusal} → out ≡ refused n → refused n ≡ each (movedSlots base) (view schema s)
       unfolding viewFrom onward each
-      not-stored g = sym (ap (each (movedSlots base)) (from-item e ∙ ap (λ x. onward x λ next. viewFrom schema next (messageFrom s q)) (field-refused base schema (w .holds) t k tag value start len at r o g)))
+      not-stored g = sym (ap (each (movedSlots base)) (from-item e ∙ ap (λ x. onward x λ next. viewFrom schema next (messageFrom s q)) (field-refused base schema (w .holds) t k tag value start len at r was o g)))
 
-      pub stored : {x : Slot} → out ≡ kept x → k < 11 → Filling base schema s (set v k x) q
+      pub stored : {x : Slot} → out ≡ kept x → {v′ : List ℕ} → length v′ ≡ 44 → slotAt v′ ≡ with (slotAt v) k x → Filling base schema s v′ q
       unfolding viewFrom onward
-      stored g b =
-          let y = field-kept base schema (w .holds) t k tag value start len at r o g b in
+      stored g {v′} n b =
+          let y = field-kept base schema (w .holds) t k tag value start len at r was o g v′ n b in
           record { slots = y .0; holds = y .2; so = from-item e ∙ ap (λ x. onward x λ next. viewFrom schema next (messageFrom s q)) (y .1) }
 
 -- ---- a view of a part
@@ -273,14 +336,14 @@ module _ {A : Type 0} (of : Slots → A) (base : ℕ) (x : Outcome Slots) where
       by (kept slots) = refl
       by (refused n) = refl
 
-  module _ (f : Filled) (e : filledOf f ≡ each (movedSlots base) x) where
-    handed : {t : Status} → f .status ≡ t → each of (filledBy t (f .slots)) ≡ each (λ slots. of (movedSlots base slots)) x
-    handed g = ap (λ (t : Status). each of (filledBy t (f .slots))) (sym g) ∙ ap (each of) e ∙ twice
+  module _ (t : Status) (v : List ℕ) (e : filledBy t v ≡ each (movedSlots base) x) where
+    handed : {t′ : Status} → t ≡ t′ → each of (filledBy t′ v) ≡ each (λ slots. of (movedSlots base slots)) x
+    handed g = ap (λ (t : Status). each of (filledBy t v)) (sym g) ∙ ap (each of) e ∙ twice
 
-    pub handed-refused : {n : Refusal} → f .status ≡ status.Refused n → refused n ≡ each (λ slots. of (movedSlots base slots)) x
+    pub handed-refused : {n : Refusal} → t ≡ status.Refused n → refused n ≡ each (λ slots. of (movedSlots base slots)) x
     unfolding each
     handed-refused g = handed g
 
-    pub handed-kept : f .status ≡ status.Kept → kept (of (slotsOf (f .slots))) ≡ each (λ slots. of (movedSlots base slots)) x
+    pub handed-kept : t ≡ status.Kept → kept (of (slotsOf v)) ≡ each (λ slots. of (movedSlots base slots)) x
     unfolding each
     handed-kept g = handed g

@@ -1,6 +1,6 @@
 -- `fill` is the view by its schema, its parts moved: each turn stores the field at the place where the loop stands.
 use borrow.Author.Needs.{needs}
-use Prim.Native.Nat.{_-_}
+use Prim.Native.Nat.{_-_, _<_}
 use native.Mathlib.Omega.{arith}
 use lib.ListN.{length}
 use mathlib.Core.Path.{ap}
@@ -21,7 +21,7 @@ abbrev μ-loop : tie.MeasureT-loop
 μ-loop s base which v₀ at₀ v at = length s - at
 
 loop-holds : tie.Need-loop-holds Inv-loop μ-loop
-loop-holds c = begins _ _ _
+loop-holds c = begins _ _ _ (c .before .pre .1)
 
 returns : tie.Need-returns Inv-loop μ-loop
 returns c =
@@ -38,51 +38,48 @@ returns-3 c =
     let b = c .before .before .before in
     spoilt-off _ _ _ (b .before .loop .inv) (says fieldOf (b .next-field .ensures) (c .before .f2 .given .1))
 
-array-copy-out-old : tie.Need-array-copy-out-old Inv-loop μ-loop
-array-copy-out-old c =
+-- the place is in the array
+room : (c : tie.After-place Inv-loop μ-loop) → c .place .result < 11
+room c =
     let d = c .before in
     in-room (d .before .before .before .before .before .before .before .args .which) (d .rule-of .result) (d .before .before .f3 .given .0 .0) (c .place .ensures) (d .rule-of .ensures)
 
-mul-old : tie.Need-mul-old Inv-loop μ-loop
-mul-old c = omega (arith, array-copy-out-old c)
-
 add-put-slot : tie.Need-add-put-slot Inv-loop μ-loop
 add-put-slot c =
-    let d = c .before .before in
+    let d = c .before .before .before in
     let b = d .before .before .before .before in
     omega (arith, field-within _ _ _ _ (says fieldOf (b .next-field .ensures) (d .before .before .f3 .given .1)))
 
 returns-4 : tie.Need-returns-4 Inv-loop μ-loop
 returns-4 c =
     let o = c .before .before .before in
-    let k = o .before .before in
+    let k = o .before .before .before in
     let d = k .before in
     let b = d .before .before .before .before in
     not-stored _ _ _ (b .before .loop .inv) (d .rule-of .result) _ _ _ _ _ (k .place .ensures) (says fieldOf (b .next-field .ensures) (d .before .before .f3 .given .1))
-    (d .rule-of .ensures) (o .put-slot .ensures) (ap putOf (c .before .p .given .1))
+    (d .rule-of .ensures) (o .before .slot-in .ensures) (o .put-slot .ensures) (ap putOf (c .before .p .given .1))
 
-mul-v : tie.Need-mul-v Inv-loop μ-loop
-mul-v c = omega (arith, array-copy-out-old (c .before .before .before .before .before))
-
-array-set-from-v : tie.Need-array-set-from-v Inv-loop μ-loop
-array-set-from-v c = array-copy-out-old (c .before .before .before .before .before)
+store-requires : tie.Need-store-requires Inv-loop μ-loop
+store-requires c κs =
+    let k = c .before .before .before .before .before .before .before in
+    (room k, k .before .before .before .before .before .before .loop .inv .holds .size)
 
 loop-less : tie.Need-loop-less Inv-loop μ-loop
 loop-less c =
-    let o = c .before .before .before in
-    let k = o .before .before in
-    let d = k .before in
+    let o = c .before .before .before .before .before in
+    let d = o .before .before .before .before in
     let b = d .before .before .before .before in
     left-falls _ _ (says fieldOf (b .next-field .ensures) (d .before .before .f3 .given .1))
 
 loop-again : tie.Need-loop-again Inv-loop μ-loop
 loop-again c =
-    let o = c .before .before .before in
-    let k = o .before .before in
+    let p = c .before .before .before in
+    let o = p .before .before in
+    let k = o .before .before .before in
     let d = k .before in
     let b = d .before .before .before .before in
     stored _ _ _ (b .before .loop .inv) (d .rule-of .result) _ _ _ _ _ (k .place .ensures) (says fieldOf (b .next-field .ensures) (d .before .before .f3 .given .1))
-    (d .rule-of .ensures) (o .put-slot .ensures) (ap putOf (c .before .p2 .given .1)) (array-copy-out-old k)
+    (d .rule-of .ensures) (o .before .slot-in .ensures) (o .put-slot .ensures) (ap putOf (p .p2 .given .1)) (c .store .ensures .0) (c .store .ensures .1)
 
 pub fill-spec : {M : Type 1} → statement M
 fill-spec =
@@ -101,14 +98,12 @@ fill-spec =
     (λ c. search needs)
     (λ c κs. search needs)
     (λ c κs. search needs)
-    mul-old
-    array-copy-out-old
+    (λ c κs. room (c .before))
     add-put-slot
     (λ c κs. search needs)
     (λ c. search needs)
     returns-4
     (λ c. search needs)
-    mul-v
-    array-set-from-v
+    store-requires
     loop-less
     loop-again)

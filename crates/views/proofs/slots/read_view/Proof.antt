@@ -23,10 +23,10 @@ part-fill-end : tie.Need-part-fill-end
 part-fill-end c = omega (arith, within c)
 
 fill-requires : tie.Need-fill-requires
-fill-requires c κs = omega (arith, within (c .before))
+fill-requires c κs = (omega (arith, within (c .before .before)), c .before .before .before .before .before .pre)
 
 returns-2 : tie.Need-returns-2
-returns-2 c = fill-inside _ _ _ _ (confirmed (c .before .before .before .part-fits .ensures) (c .before .before .if1 .left)) (c .fill .ensures)
+returns-2 c = fill-inside _ _ _ _ (confirmed (c .before .before .before .before .part-fits .ensures) (c .before .before .before .if1 .left)) (c .fill .ensures)
 
 pub read-view-spec : {M : Type 1} → statement M
 read-view-spec =

@@ -16,19 +16,20 @@ infoBy slots = infoOf (infoFields slots)
 
 returns : tie.Need-returns
 returns c =
-    let d = c .before .before .before .before in
-    let a = d .before .before .args in
-    handed-refused infoBy _ _ _ (d .read-view .ensures) (c .before .status .given .1)
-    ∙ ap (λ f. each f (viewIn info (a .buffer .now) (a .start) (a .len))) (info-moved _)
+    let d = c .before .before .before in
+    let a = d .before .before .before .args in
+    let x = viewIn info (a .buffer .now) (a .start) (a .len) in
+    handed-refused infoBy _ x _ _ (d .read-view .ensures) (c .before .status .given .1) ∙ ap (λ f. each f x) (info-moved _)
 
 returns-2 : tie.Need-returns-2
 returns-2 c =
-    let b = c .before .before in
-    let d = b .before .before .before in
-    let a = d .before .before .args in
+    let b = c .before .before .before in
+    let d = b .before .before in
+    let a = d .before .before .before .args in
+    let x = viewIn info (a .buffer .now) (a .start) (a .len) in
     ap kept (c .info-of .ensures ∙ ap infoOf (c .before .info-fields .ensures))
-    ∙ handed-kept infoBy _ _ _ (d .read-view .ensures) (b .enum-told .given .1)
-    ∙ ap (λ f. each f (viewIn info (a .buffer .now) (a .start) (a .len))) (info-moved _)
+    ∙ handed-kept infoBy _ x _ _ (d .read-view .ensures) (b .enum-told .given .1)
+    ∙ ap (λ f. each f x) (info-moved _)
 
 pub parse-spec : {M : Type 1} → statement M
 parse-spec =

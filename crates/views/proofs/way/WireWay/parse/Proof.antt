@@ -8,12 +8,12 @@ use Rattle.views.proofs.way.WireWay.parse.Statement.{statement}
 use Rattle.views.proofs.way.WireWay.parse.Tie as tie
 
 returns : tie.Need-returns
-returns c = handed-refused wayOf _ _ _ (c .before .before .before .before .read-view .ensures) (c .before .status .given .1)
+returns c = handed-refused wayOf _ _ _ _ (c .before .before .before .read-view .ensures) (c .before .status .given .1)
 
 returns-2 : tie.Need-returns-2
 returns-2 c =
     ap kept (c .way-of .ensures)
-    ∙ handed-kept wayOf _ _ _ (c .before .before .before .before .read-view .ensures) (c .before .enum-told .given .1)
+    ∙ handed-kept wayOf _ _ _ _ (c .before .before .before .before .read-view .ensures) (c .before .before .enum-told .given .1)
 
 pub parse-spec : {M : Type 1} → statement M
 parse-spec =
