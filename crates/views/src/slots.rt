@@ -80,7 +80,7 @@ pub(crate) fn slot_in(v: &[u64; 44], k: usize) -> Slot
     }
 }
 
-// Puts a slot at a place.
+// Puts a slot at a place. An array that is lent to be changed does not tell its length, so that is asked for, and promised.
 fn store(v: &mut [u64; 44], k: usize, x: Slot)
     requires { ⌜ (k < 11) × (length (now v) ≡ 44) ⌝ }
     ensures size { λ r. ⌜ length (now (v .exit)) ≡ 44 ⌝ }
