@@ -2,4 +2,3 @@
 pub mod Calls
 pub mod Slots
 pub mod References
-pub mod Members

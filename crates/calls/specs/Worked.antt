@@ -14,26 +14,19 @@ use Rattle.protobuf.specs.Column.{ended, cut, valueAt, columnFrom, sumsFrom}
 use Rattle.numbers.specs.Little.{little, bytes, numberAt}
 use Rattle.numbers.specs.Signed.{signed, twos, unzigzag, zigzag, residue, wrap}
 use Rattle.columns.specs.InStep.{ahead}
-use Rattle.columns.specs.Zip.{zip}
 use Rattle.elements.specs.declared.references.WayRefIter.{WayRefIter}
 use Rattle.elements.specs.declared.references.WayRefIter.the-variants as refs
-use Rattle.elements.specs.declared.members.MemberId.the-variants as id
-use Rattle.elements.specs.declared.members.RelMemberIter.{RelMemberIter}
-use Rattle.elements.specs.declared.members.RelMemberIter.the-variants as members
 use Rattle.elements.specs.References.{refsFrom}
-use Rattle.elements.specs.Members.{membersBy}
 use Rattle.answers.specs.Words.{words}
-use Rattle.answers.specs.Record.{recordIn}
 use Rattle.calls.specs.Calls.{first, past, gives, tells, answered, leaves, asks, callCode, itemsPut, countAfter, SlotLeft, oneRoom, roomFor}
 use Rattle.calls.specs.References.{refWords, refsAt, refItem, refsCall}
-use Rattle.calls.specs.Members.{memberWords, membersAt, memberItem, membersCall}
 
 -- a slice of n bytes that nothing was written to
 abbrev pub blank : ℕ → List ℕ
 blank n = replicate n 0xEE
 
 -- −1, which is 2^64 − 1 in two's complement, and so on
-abbrev minus : ℕ → ℕ
+abbrev pub minus : ℕ → ℕ
 minus n = 2 ^ 64 - n
 
 abbrev pub place : ℕ → ℕ → state.Column
@@ -41,10 +34,6 @@ place at e = record { at = at; end = e }
 
 abbrev pub refsWith : ℕ → ℕ → ℤ → WayRefIter
 refsWith at e sum = refs.Refs (record { column = place at e; sum = sum })
-
-abbrev pub membersWith : ℕ → ℕ → ℕ → ℕ → ℤ → ℕ → ℕ → RelMemberIter
-membersWith role roleEnd memid memidEnd sum type typeEnd =
-    members.Members (record { roles = place role roleEnd; memids = record { column = place memid memidEnd; sum = sum }; types = place type typeEnd })
 
 -- states and items as numbers
 pub record States : Type 0 where
@@ -54,20 +43,11 @@ pub record States : Type 0 where
   pub refs-back : refsAt (words (1 ∷ 5 ∷ 6 ∷ minus 7 ∷ []) ++ blank 1) ≡ refsWith 5 6 (negsuc 6)
   pub refs-ended-back : refsAt (words (0 ∷ 5 ∷ 6 ∷ 7 ∷ [])) ≡ refs.Ended
   pub refs-phase-two : refsAt (words (2 ∷ 5 ∷ 6 ∷ 7 ∷ [])) ≡ refsWith 1 0 (pos 0)
-  pub members-words : memberWords (membersWith 2 3 4 5 (negsuc 5) 7 8) ≡ 1 ∷ 2 ∷ 3 ∷ 4 ∷ 5 ∷ minus 6 ∷ 7 ∷ 8 ∷ []
-  pub members-ended-words : memberWords members.Ended ≡ 0 ∷ 0 ∷ 0 ∷ 0 ∷ 0 ∷ 0 ∷ 0 ∷ 0 ∷ []
-  pub members-back : membersAt (words (1 ∷ 2 ∷ 3 ∷ 4 ∷ 5 ∷ minus 6 ∷ 7 ∷ 8 ∷ [])) ≡ membersWith 2 3 4 5 (negsuc 5) 7 8
-  pub members-ended-back : membersAt (words (0 ∷ 2 ∷ 3 ∷ 4 ∷ 5 ∷ 6 ∷ 7 ∷ 8 ∷ [])) ≡ members.Ended
-  pub members-phase-two : membersAt (words (2 ∷ 2 ∷ 3 ∷ 4 ∷ 5 ∷ 6 ∷ 7 ∷ 8 ∷ [])) ≡ membersWith 1 0 1 0 (pos 0) 1 0
   -- an item's numbers
   pub ref-item : refItem (negsuc 0) ≡ minus 1 ∷ []
-  pub node-item : memberItem (record { role = negsuc 0; id = id.Node (pos 5) }) ≡ minus 1 ∷ 0 ∷ 0 ∷ 5 ∷ []
-  pub way-item : memberItem (record { role = pos 7; id = id.Way (negsuc 4) }) ≡ 7 ∷ 1 ∷ 1 ∷ minus 5 ∷ []
-  pub relation-item : memberItem (record { role = pos 7; id = id.Relation (pos 5) }) ≡ 7 ∷ 2 ∷ 2 ∷ 5 ∷ []
-  pub unknown-item : memberItem (record { role = pos 7; id = id.Unknown (negsuc 3) (pos 5) }) ≡ 7 ∷ 3 ∷ minus 4 ∷ 5 ∷ []
 
 pub states-worked : States
-unfolding little bytes numberAt signed twos residue words refsAt membersAt
+unfolding little bytes numberAt signed twos residue words refsAt
 states-worked =
     record {
       refs-words = refl;
@@ -75,16 +55,7 @@ states-worked =
       refs-back = refl;
       refs-ended-back = refl;
       refs-phase-two = refl;
-      members-words = refl;
-      members-ended-words = refl;
-      members-back = refl;
-      members-ended-back = refl;
-      members-phase-two = refl;
       ref-item = refl;
-      node-item = refl;
-      way-item = refl;
-      relation-item = refl;
-      unknown-item = refl;
     }
 
 -- the references 1, 2 and 1
@@ -114,15 +85,10 @@ pub record Answers : Type 0 where
   pub no-more : refsCall steps (words (1 ∷ 3 ∷ 3 ∷ 1 ∷ []) ++ blank 1) 9 ≡ asks (tells ended)
   pub no-room : refsCall steps (words (1 ∷ 0 ∷ 3 ∷ 0 ∷ []) ++ blank 1) 0 ≡ asks (tells (cut Outside))
   pub other-phase : refsCall steps (words (2 ∷ 0 ∷ 3 ∷ 0 ∷ [])) 9 ≡ asks (tells (cut Outside))
-  -- a slot that is too short, or holds the ended state, is told before the room and the record
+  -- a slot that is too short, or holds the ended state, is told before the room
   pub slot-short : refsCall steps (take 31 (words (1 ∷ 0 ∷ 3 ∷ 0 ∷ []))) 9 ≡ leaves 14
   pub slot-ended : refsCall steps (words (0 ∷ 9 ∷ 9 ∷ 9 ∷ [])) 0 ≡ leaves 101
   pub slot-ended-short : refsCall steps (take 31 (words (0 ∷ 0 ∷ 0 ∷ 0 ∷ []))) 0 ≡ leaves 14
-  pub members-ended-first : membersCall [] (blank 71) (words (0 ∷ 9 ∷ 9 ∷ 9 ∷ 9 ∷ 9 ∷ 9 ∷ 9 ∷ [])) 0 ≡ leaves 101
-  pub members-slot-short : membersCall [] (blank 71) (take 63 (words (0 ∷ 9 ∷ 9 ∷ 9 ∷ 9 ∷ 9 ∷ 9 ∷ 9 ∷ []))) 0 ≡ leaves 14
-  -- members, over a record where one can be read
-  pub a-member : membersCall numbered recorded (words (1 ∷ 0 ∷ 1 ∷ 2 ∷ 3 ∷ 5 ∷ 0 ∷ 1 ∷ [])) 9 ≡ asks (gives (record { role = pos 1; id = id.Way (pos 6) }) [] (end ended))
-  pub members-without-a-record : membersCall numbered (take 71 recorded) (words (1 ∷ 0 ∷ 1 ∷ 2 ∷ 3 ∷ 5 ∷ 0 ∷ 1 ∷ [])) 9 ≡ asks (tells (cut Outside))
   -- codes
   pub code-left : callCode {A = ℕ} (leaves 101) ≡ 101
   pub code-given : callCode {A = ℕ} (asks (gives 7 [] (end (cut VarintCut)))) ≡ 0
@@ -142,7 +108,7 @@ pub record Answers : Type 0 where
   pub left-as-it-was : SlotLeft refsAt refWords refs.Ended (refsFrom steps) (words (0 ∷ 9 ∷ 9 ∷ 9 ∷ [])) (refsCall steps (words (0 ∷ 9 ∷ 9 ∷ 9 ∷ [])) 1) (words (0 ∷ 9 ∷ 9 ∷ 9 ∷ []))
 
 pub answers-worked : Answers
-unfolding little bytes numberAt signed twos residue words refsAt membersAt first past answered itemsPut andThen digits varint unrolled valueAt columnFrom ahead mapped zip unzigzag zigzag wrap sumsFrom membersBy recordIn
+unfolding little bytes numberAt signed twos residue words refsAt first past answered itemsPut andThen digits varint unrolled valueAt columnFrom ahead mapped unzigzag zigzag wrap sumsFrom
 answers-worked =
     record {
       one-item = refl;
@@ -157,10 +123,6 @@ answers-worked =
       slot-short = refl;
       slot-ended = refl;
       slot-ended-short = refl;
-      members-ended-first = refl;
-      members-slot-short = refl;
-      a-member = refl;
-      members-without-a-record = refl;
       code-left = refl;
       code-given = refl;
       code-ended = refl;

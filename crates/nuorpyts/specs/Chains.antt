@@ -28,7 +28,7 @@ use Rattle.walk.specs.Run.{Run}
 use Rattle.answers.specs.Record.{recordIn}
 use Rattle.calls.specs.References.{refWords, refsAt, refsOver}
 use Rattle.tag_calls.specs.Tags.{tagWords, tagsAt, tagsOver, tagsIn}
-use Rattle.calls.specs.Members.{memberWords, membersAt, membersOver, membersIn}
+use Rattle.member_calls.specs.Members.{memberWords, membersAt, membersOver, membersIn}
 use Rattle.walk_slots.specs.Slot.{walkWords, walkAt}
 use Rattle.walk_calls.specs.Steps.{Put, foundBy, walkOver, walkIn}
 use Rattle.walk_calls.specs.Chain.{Answer, CallPost, HandsAll}

@@ -19,8 +19,9 @@ use Rattle.elements.specs.declared.element.Element.{Element}
 use Rattle.elements.specs.declared.element.Element.the-variants as element
 use Rattle.answers.specs.Words.{words}
 use Rattle.layouts.specs.Element.{elementWords}
-use Rattle.calls.specs.Worked.{blank, place, refsWith, membersWith}
+use Rattle.calls.specs.Worked.{blank, place, refsWith}
 use Rattle.tag_calls.specs.Worked.{columnsBy}
+use Rattle.member_calls.specs.Worked.{membersWith}
 use Rattle.start_calls.specs.Starts.{refsStartIn, tagsStartIn, membersStartIn}
 
 abbrev ofNumbers : List ℕ → List ℕ

@@ -38,7 +38,7 @@ use Rattle.answers.proofs.laws.Codes.{long-enough}
 use Rattle.calls.specs.Calls.{oneRoom, roomFor, callCode, itemsOf, itemsPut, countAfter, SlotLeft}
 use Rattle.calls.specs.References.{refWords, refsAt, refsOver, refItem}
 use Rattle.tag_calls.specs.Tags.{tagWords, tagsAt, tagsOver, tagsIn, tagItem}
-use Rattle.calls.specs.Members.{memberWords, membersAt, membersOver, membersIn, memberItem}
+use Rattle.member_calls.specs.Members.{memberWords, membersAt, membersOver, membersIn, memberItem}
 use Rattle.start_calls.specs.Starts.{refsStartIn, tagsStartIn, membersStartIn, startedBy}
 use Rattle.walk_slots.specs.Slot.{walkWords, walkAt}
 use Rattle.walk_calls.specs.Steps.{Put, foundBy, ElementsIn, walkOver, walkIn}

@@ -36,10 +36,10 @@ use Rattle.answers.specs.Record.{recordIn}
 use Rattle.calls.specs.Slots.{withRecord}
 use Rattle.calls.specs.References.{refWords, refsAt, refsOver}
 use Rattle.tag_calls.specs.Tags.{tagWords, tagsAt, tagsOver, tagsIn}
-use Rattle.calls.specs.Members.{memberWords, membersAt, membersOver, membersIn}
+use Rattle.member_calls.specs.Members.{memberWords, membersAt, membersOver, membersIn}
 use Rattle.tag_calls.proofs.laws.Tags as tag-laws
 use Rattle.calls.proofs.laws.References as ref-laws
-use Rattle.calls.proofs.laws.Members as member-laws
+use Rattle.member_calls.proofs.laws.Members as member-laws
 use Rattle.walk_slots.specs.Slot.{walkWords, walkAt}
 use Rattle.walk_slots.proofs.laws.Back.{ended-put}
 use Rattle.walk_calls.specs.Steps.{Put, foundBy, walkOver, walkIn}

@@ -29,7 +29,7 @@ use Rattle.answers.proofs.laws.Words.{words-length, word-back}
 use Rattle.layouts.specs.Element.{kindWord, elementWords, elementPut}
 use Rattle.layouts.proofs.laws.Element.{own-most}
 use Rattle.start_calls.specs.Starts.{kindAt, partAt, refsStartIn, columnsStartIn, tagsStartIn, membersStartIn}
-use Rattle.calls.proofs.laws.Members.{Placed}
+use Rattle.member_calls.proofs.laws.Members.{Placed}
 use Rattle.start_calls.proofs.laws.Starts.{keys-and-vals, refs-of-way, no-refs, tags-of-dense, tags-of-node, tags-of-others, members-of-relation, no-members}
 
 -- ---- numbers that the machine holds

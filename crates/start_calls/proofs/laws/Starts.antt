@@ -25,7 +25,7 @@ use Rattle.answers.specs.Codes.{codeOf}
 use Rattle.answers.proofs.laws.Words.{put-short}
 use Rattle.calls.specs.References.{refWords}
 use Rattle.tag_calls.specs.Tags.{tagWords}
-use Rattle.calls.specs.Members.{memberWords}
+use Rattle.member_calls.specs.Members.{memberWords}
 use Rattle.calls.specs.Slots.{columnAt}
 use Rattle.start_calls.specs.Starts.{partAt, refsStartIn, columnsStartIn, tagsStartIn, membersStartIn, startedBy, Started}
 

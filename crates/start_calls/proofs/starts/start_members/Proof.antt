@@ -1,7 +1,7 @@
 -- `start_members` puts the state that the element's bytes start at.
 use borrow.Author.Needs.{needs}
 use Rattle.elements.specs.declared.members.RelMemberIter.the-variants as iter
-use Rattle.calls.specs.Members.{memberWords, membersAt}
+use Rattle.member_calls.specs.Members.{memberWords, membersAt}
 use Rattle.start_calls.specs.Starts.{membersStartIn}
 use Rattle.start_calls.proofs.laws.Starts.{start-short, start-put, members-width}
 use Rattle.start_calls.proofs.starts.start_members.Statement.{statement}

@@ -4,12 +4,12 @@ use Prim.Native.Nat.{_-_}
 use native.Mathlib.Omega.{arith}
 use Rattle.elements.specs.Members.{membersFrom}
 use Rattle.elements.specs.declared.members.RelMemberIter.the-variants as iter
 use Rattle.calls.specs.Filling.{Filling}
-use Rattle.calls.specs.Members.{memberItem}
+use Rattle.member_calls.specs.Members.{memberItem}
 use Rattle.calls.proofs.laws.Calls.{fill-begins, fill-on, fill-ends, fill-full, item-room}
-use Rattle.calls.proofs.laws.Members.{item-size}
-use Rattle.calls.proofs.members.fill_members.Statement.{statement}
-use Rattle.calls.proofs.members.fill_members.Tie as tie
+use Rattle.member_calls.proofs.laws.Members.{item-size}
+use Rattle.member_calls.proofs.members.fill_members.Statement.{statement}
+use Rattle.member_calls.proofs.members.fill_members.Tie as tie
 
 abbrev Inv-loop : tie.InvT-loop
 Inv-loop buffer block out₀ most start count₀ out state count =

@@ -4,10 +4,10 @@ use mathlib.Core.Path.{refl, sym, ap, _∙_}
 use Rattle.protobuf.specs.Column.{ended, cut}
 use Rattle.elements.specs.Members.{membersFrom, memberSaid}
 use Rattle.answers.specs.Words.{filledAt}
-use Rattle.calls.specs.Members.{memberItem}
+use Rattle.member_calls.specs.Members.{memberItem}
 use Rattle.calls.proofs.laws.Calls.{puts-item, puts-nothing}
-use Rattle.calls.proofs.members.put_member.Statement.{statement}
-use Rattle.calls.proofs.members.put_member.Tie as tie
+use Rattle.member_calls.proofs.members.put_member.Statement.{statement}
+use Rattle.member_calls.proofs.members.put_member.Tie as tie
 
 pub put-member-spec : {M : Type 1} → statement M
 put-member-spec =

@@ -5,9 +5,9 @@ use mathlib.Core.Path.{ap}
 use mathlib.Core.List.{[], _∷_}
 use mir.Syntax.{w32, w64}
 use Rattle.answers.proofs.laws.Signed.{as-word}
-use Rattle.calls.proofs.laws.Members.{item-case}
-use Rattle.calls.proofs.members.member_numbers.Statement.{statement}
-use Rattle.calls.proofs.members.member_numbers.Tie as tie
+use Rattle.member_calls.proofs.laws.Members.{item-case}
+use Rattle.member_calls.proofs.members.member_numbers.Statement.{statement}
+use Rattle.member_calls.proofs.members.member_numbers.Tie as tie
 
 pub member-numbers-spec : {M : Type 1} → statement M
 member-numbers-spec =

@@ -19,9 +19,9 @@ use Rattle.elements.specs.declared.members.MemberId.the-variants as id
 use Rattle.elements.specs.declared.members.RelMember.{RelMember}
 use Rattle.elements.specs.declared.members.RelMemberIter.the-variants as iter
 use Rattle.answers.specs.Words.{filled, signedWord}
 use Rattle.calls.specs.Slots.{columnAt, sumAt}
-use Rattle.calls.specs.Members.{memberWords, membersAt, memberItemBy, memberItem}
+use Rattle.member_calls.specs.Members.{memberWords, membersAt, memberItemBy, memberItem}
 use Rattle.calls.proofs.laws.Slots.{signed-kept, number-back}
 
 module _ (s : List ℕ) {phase : ℕ} (e : phase ≡ numberAt 8 s 0) where
   pub members-ended : phase ≡ 0 → iter.Ended ≡ membersAt s

@@ -4,10 +4,10 @@ use Rattle.protobuf.proofs.laws.Read.{says}
 use Rattle.elements.specs.Members.{membersFrom}
 use Rattle.elements.specs.declared.members.RelMemberIter.the-variants as iter
 use Rattle.answers.specs.Record.{recordOf}
-use Rattle.calls.specs.Members.{memberItem}
+use Rattle.member_calls.specs.Members.{memberItem}
 use Rattle.calls.proofs.laws.Slots.{over-record, over-none}
-use Rattle.calls.proofs.members.members_over.Statement.{statement}
-use Rattle.calls.proofs.members.members_over.Tie as tie
+use Rattle.member_calls.proofs.members.members_over.Statement.{statement}
+use Rattle.member_calls.proofs.members.members_over.Tie as tie
 
 pub members-over-spec : {M : Type 1} → statement M
 members-over-spec =

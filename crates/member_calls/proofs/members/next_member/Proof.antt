@@ -1,9 +1,9 @@
 -- `next_member` is a call with room for one member.
 use borrow.Author.Needs.{needs}
-use Rattle.calls.specs.Members.{membersCall}
+use Rattle.member_calls.specs.Members.{membersCall}
 use Rattle.calls.proofs.laws.Calls.{with-room, own-items}
-use Rattle.calls.proofs.members.next_member.Statement.{statement}
-use Rattle.calls.proofs.members.next_member.Tie as tie
+use Rattle.member_calls.proofs.members.next_member.Statement.{statement}
+use Rattle.member_calls.proofs.members.next_member.Tie as tie
 
 pub next-member-spec : {M : Type 1} → statement M
 next-member-spec =

@@ -4,15 +4,9 @@ ghost use Prim.Native.Nat.{_*_, _≤_};
 ghost use lib.ListN.{length};
 ghost use Rattle.answers.specs.Words.{filled};
 ghost use Rattle.elements.specs.Members.{membersFrom};
 ghost use Rattle.calls.specs.Calls.{answered, oneRoom, roomFor, callCode, itemsOf, itemsPut, countAfter, SlotLeft};
 ghost use Rattle.calls.specs.Filling.{StopsAt, ItemPut, Filled, Called};
-ghost use Rattle.calls.specs.Members.{memberWords, membersAt, memberItem, membersIn, membersCall};
-use crate::room::Counted;
-use crate::room::one_room;
-use crate::room::put_count;
-use crate::room::room_for;
-use crate::slot::column_in;
-use crate::slot::sum_in;
+ghost use Rattle.member_calls.specs.Members.{memberWords, membersAt, memberItem, membersIn, membersCall};
 use answers::codes::ENDED;
 use answers::codes::OUTSIDE;
 use answers::record::RecordIn;
@@ -20,6 +14,11 @@ use answers::record::record_in;
 use answers::words::bits_i32;
 use answers::words::put_at;
 use answers::words::put_numbers;
+use calls::room::Counted;
+use calls::room::one_room;
+use calls::room::put_count;
+use calls::room::room_for;
+use calls::slot::column_in;
 use columns::sums::Sum64;
 use columns::zip::MemberColumns;
 use elements::members::MemberId;
@@ -28,6 +27,7 @@ use elements::members::RelMemberIter;
 use elements::members::RelMemberStep;
 use numbers::little::read_u64;
 use numbers::signed::bits_i64;
+use numbers::signed::int64;
 use protobuf::column::Column;
 use protobuf::refusal::number;
 use wire::record::WireBlock;
@@ -56,7 +56,10 @@ pub fn members_in(slot: &[u8]) -> RelMemberIter
     if phase == 1 {
         return RelMemberIter::Members(MemberColumns {
             roles: column_in(slot, 8, 16),
-            memids: sum_in(slot, 24),
+            memids: Sum64 {
+                column: column_in(slot, 24, 32),
+                sum: int64(read_u64(slot, 40)),
+            },
             types: column_in(slot, 48, 56),
         });
     }

@@ -7,11 +7,11 @@ use mathlib.Core.List.{[], _∷_}
 use mir.Syntax.{w64}
 use Rattle.answers.specs.Words.{filled}
 use Rattle.answers.proofs.laws.Signed.{as-word}
-use Rattle.calls.specs.Members.{memberWords, membersAt}
+use Rattle.member_calls.specs.Members.{memberWords, membersAt}
 use Rattle.calls.proofs.laws.Slots.{state-put}
-use Rattle.calls.proofs.laws.Members.{ended-back, members-back}
-use Rattle.calls.proofs.members.put_members.Statement.{statement}
-use Rattle.calls.proofs.members.put_members.Tie as tie
+use Rattle.member_calls.proofs.laws.Members.{ended-back, members-back}
+use Rattle.member_calls.proofs.members.put_members.Statement.{statement}
+use Rattle.member_calls.proofs.members.put_members.Tie as tie
 
 pub put-members-spec : {M : Type 1} → statement M
 put-members-spec =

@@ -1,7 +1,7 @@
 -- `members_behind` goes by whether there are any.
 use Rattle.calls.proofs.laws.Calls.{stops-now, stops-later}
-use Rattle.calls.proofs.members.members_behind.Statement.{statement}
-use Rattle.calls.proofs.members.members_behind.Tie as tie
+use Rattle.member_calls.proofs.members.members_behind.Statement.{statement}
+use Rattle.member_calls.proofs.members.members_behind.Tie as tie
 
 pub members-behind-spec : {M : Type 1} → statement M
 members-behind-spec =

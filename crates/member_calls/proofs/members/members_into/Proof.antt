@@ -2,10 +2,10 @@
 use borrow.Author.Needs.{needs}
 use mathlib.Core.Path.{ap}
 use Rattle.elements.specs.declared.members.RelMemberIter.the-variants as iter
-use Rattle.calls.specs.Members.{memberWords, membersAt, memberItem, membersOver, membersIn}
+use Rattle.member_calls.specs.Members.{memberWords, membersAt, memberItem, membersOver, membersIn}
 use Rattle.calls.proofs.laws.Calls.{call-short, call-ended, call-asks}
-use Rattle.calls.proofs.members.members_into.Statement.{statement}
-use Rattle.calls.proofs.members.members_into.Tie as tie
+use Rattle.member_calls.proofs.members.members_into.Statement.{statement}
+use Rattle.member_calls.proofs.members.members_into.Tie as tie
 
 pub members-into-spec : {M : Type 1} → statement M
 members-into-spec =

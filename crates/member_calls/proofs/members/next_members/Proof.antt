@@ -1,9 +1,9 @@
 -- `next_members` is a call with room for as many members as fit.
 use borrow.Author.Needs.{needs}
-use Rattle.calls.specs.Members.{membersCall}
+use Rattle.member_calls.specs.Members.{membersCall}
 use Rattle.calls.proofs.laws.Calls.{with-room, call-counts, own-items}
-use Rattle.calls.proofs.members.next_members.Statement.{statement}
-use Rattle.calls.proofs.members.next_members.Tie as tie
+use Rattle.member_calls.proofs.members.next_members.Statement.{statement}
+use Rattle.member_calls.proofs.members.next_members.Tie as tie
 
 pub next-members-spec : {M : Type 1} → statement M
 next-members-spec =

@@ -1,0 +1,3 @@
+-- The states and items of members through C.
+pub mod Members
+pub mod Worked

@@ -1,0 +1,2 @@
+// Calls through C over a relation's members.
+pub mod members;
