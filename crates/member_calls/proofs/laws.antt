@@ -1,2 +1,3 @@
 -- One file of laws for each subject.
 pub mod Members
+pub mod ShortMembers

@@ -5,7 +5,7 @@ ghost use lib.ListN.{length};
 ghost use Rattle.answers.specs.Words.{filled};
 ghost use Rattle.elements.specs.Members.{membersFrom};
 ghost use Rattle.calls.specs.Calls.{answered, oneRoom, roomFor, callCode, itemsOf, itemsPut, countAfter, SlotLeft};
-ghost use Rattle.calls.specs.Filling.{StopsAt, ItemPut, Filled, Called};
+ghost use Rattle.calls.specs.Filling.{StopsAt, ItemPut, Run, Filled, Called};
 ghost use Rattle.member_calls.specs.Members.{memberWords, membersAt, memberItem, membersIn, membersCall};
 use answers::codes::ENDED;
 use answers::codes::OUTSIDE;
@@ -25,16 +25,27 @@ use elements::members::MemberId;
 use elements::members::RelMember;
 use elements::members::RelMemberIter;
 use elements::members::RelMemberStep;
+use lookup::by_number::is_inside;
 use numbers::little::read_u64;
 use numbers::signed::bits_i64;
 use numbers::signed::int64;
+use numbers::signed::wrapping_add_i64;
+use numbers::signed::zigzag_i64;
 use protobuf::column::Column;
+use protobuf::column::short_value;
+use protobuf::column::wide_value;
 use protobuf::refusal::number;
 use wire::record::WireBlock;
 
 // A member that was put, with the state behind it; or the code of the end, with the state before it.
 struct MemberPut {
     code: u32,
+    next: RelMemberIter,
+}
+
+// How many there are behind a run, and the state behind them.
+struct MembersRun {
+    count: usize,
     next: RelMemberIter,
 }
 
@@ -143,6 +154,81 @@ fn put_member(
     }
 }
 
+// Members by a short way, from number `first` on, up to one that it does not serve. A role below 2^31 and the type of a node, a way or a
+// relation are put as they stand. The record is tested once for all members; that a column is inside, each value's word tells. The readers'
+// places and the sum are numbers of the loop: a state would pass through memory for each member.
+fn short_members(
+    buffer: &[u8],
+    block: WireBlock,
+    from: RelMemberIter,
+    out: &mut [u8],
+    first: usize,
+    most: usize,
+) -> MembersRun
+    requires { ⌜ 32 * most ≤ length (now out) ⌝ }
+    ensures { λ r. ⌜ Run memberItem (membersFrom (now (buffer .entry)) block) 32 most first from (now (out .entry)) (r .count) (r .next) (now (out .exit)) ⌝ }
+{
+    let RelMemberIter::Members(c) = from else {
+        return MembersRun {
+            count: first,
+            next: from,
+        };
+    };
+    if !is_inside(buffer, block) {
+        return MembersRun {
+            count: first,
+            next: from,
+        };
+    }
+    let ids = c.memids;
+    let mut roles = c.roles;
+    let mut memids = ids.column;
+    let mut types = c.types;
+    let mut sum = ids.sum;
+    let mut count = first;
+    while count < most {
+        let role = short_value(buffer, roles.at, roles.end);
+        let id = wide_value(buffer, memids.at, memids.end);
+        let kind = short_value(buffer, types.at, types.end);
+        if role == 0 {
+            break;
+        }
+        if id == 0 {
+            break;
+        }
+        if kind == 0 {
+            break;
+        }
+        if 0x7FFF_FFFF < role / 16 {
+            break;
+        }
+        if 2 < kind / 16 {
+            break;
+        }
+        sum = wrapping_add_i64(sum, zigzag_i64(id / 16));
+        put_at(
+            out,
+            32 * count,
+            &[role / 16, kind / 16, kind / 16, bits_i64(sum)],
+        );
+        roles.at += (role % 16) as usize;
+        memids.at += (id % 16) as usize;
+        types.at += (kind % 16) as usize;
+        count += 1;
+    }
+    MembersRun {
+        count,
+        next: RelMemberIter::Members(MemberColumns {
+            roles,
+            memids: Sum64 {
+                column: memids,
+                sum,
+            },
+            types,
+        }),
+    }
+}
+
 // What stands behind `count` members: where there are none, the end's code and the ended state.
 fn members_behind(code: u32, count: usize, state: RelMemberIter) -> MembersFilled
     ensures { λ r. ⌜ StopsAt RelMemberIter.Ended code count state (r .code) (r .count) (r .next) ⌝ }
@@ -175,12 +261,17 @@ fn fill_members(
     let mut state = start;
     let mut count = 0;
     while count < most {
-        let r = put_member(buffer, block, state, out, 32 * count);
+        let run = short_members(buffer, block, state, out, count, most);
+        let next = run.next;
+        if run.count == most {
+            return members_behind(OUTSIDE, run.count, next);
+        }
+        let r = put_member(buffer, block, next, out, 32 * run.count);
         if r.code != 0 {
-            return members_behind(r.code, count, state);
+            return members_behind(r.code, run.count, next);
         }
         state = r.next;
-        count += 1;
+        count = run.count + 1;
     }
     members_behind(OUTSIDE, count, state)
 }
