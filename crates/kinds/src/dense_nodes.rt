@@ -148,8 +148,8 @@ fn move_sum(state: Sum64, word: u64) -> Sum64
     }
 }
 
-// The next dense node of a plain walk, where there is one: the columns behind it, and what was found is not 0. Most nodes have short values
-// and no pairs, and those are taken without the answers of readers in step, which pass through memory.
+// The next dense node of a plain walk, where there is one: the columns behind it, and what was found is not 0. Most nodes have short values,
+// and those are taken without the answers of readers in step, which pass through memory.
 pub fn next_node(buffer: &[u8], columns: DenseColumns) -> NextNode
     ensures { λ r. ⌜ NodeSaid (now (buffer .entry)) columns r ⌝ }
 {
@@ -167,22 +167,22 @@ pub fn next_node(buffer: &[u8], columns: DenseColumns) -> NextNode
     if lon == 0 {
         return any_node(buffer, columns);
     }
-    if !has_no_pairs(buffer, keyvals) {
-        return any_node(buffer, columns);
-    }
-    NextNode {
-        found: 1,
-        columns: DenseColumns {
-            rows: RowColumns {
-                ids: move_sum(rows.ids, id),
-                lats: move_sum(rows.lats, lat),
-                lons: move_sum(rows.lons, lon),
-            },
-            keyvals: Column {
-                at: columns.keyvals.at + 1,
-                end: columns.keyvals.end,
-            },
-        },
+    let b = pass_node(buffer, keyvals);
+    match b {
+        Behind::Refused(_) => return NextNode { found: 0, columns },
+        Behind::Column(behind) => {
+            return NextNode {
+                found: 1,
+                columns: DenseColumns {
+                    rows: RowColumns {
+                        ids: move_sum(rows.ids, id),
+                        lats: move_sum(rows.lats, lat),
+                        lons: move_sum(rows.lons, lon),
+                    },
+                    keyvals: behind,
+                },
+            };
+        }
     }
 }
 
