@@ -62,7 +62,7 @@ enum InfoRow {
 }
 
 // Whether the next value of keys_vals is 0 in one byte, as it is where a node has no pairs. A column that is outside has no next value.
-fn has_no_pairs(buffer: &[u8], keyvals: Column) -> bool
+pub fn has_no_pairs(buffer: &[u8], keyvals: Column) -> bool
     ensures { λ r. ⌜ r ≡ zeroNext (now (buffer .entry)) keyvals ⌝ }
 {
     let at = keyvals.at;

@@ -13,6 +13,7 @@ ghost use Rattle.walk_slots.specs.Slot.{walkWords, walkAt};
 ghost use Rattle.walk_calls.specs.Steps.{ElementsIn, walkIn, walkCall};
 ghost use Rattle.nuorpyts.specs.Chains.{Accepted-in, WholeIn};
 use walk::state::BlockElementsIter;
+use walk_calls::short::short_step;
 use walk_calls::steps::next_step;
 use walk_calls::steps::next_steps;
 use walk_calls::steps::start_walk;
@@ -48,6 +49,9 @@ pub extern "C" fn nuorpyts_step(buffer: &[u8], rec: &[u8], state: &mut [u8], out
     ensures after { λ r. ⌜ ElementsIn (now (buffer .entry)) (now (out .entry)) (itemsOf (walkCall (now (buffer .entry)) (now (rec .entry)) (now (state .entry)) (oneRoom 208 (now (out .entry))))) (now (out .exit)) ⌝ }
     ensures whole { λ r. ⌜ ((b : List ℕ) (n : ℕ) (s′ : List ℕ) (rec′ : List ℕ) (b′ : List ℕ) (n′ : ℕ) → length s′ < 2 ^ 64 → Accepted-in (now (buffer .entry)) (now (rec .entry)) b n → Accepted-in s′ rec′ b′ n′ → WholeIn (now (buffer .entry)) (now (rec .entry)) b n s′ rec′ b′ n′) ⌝ }
 {
+    if short_step(buffer, rec, state, out) {
+        return 0;
+    }
     next_step(buffer, rec, state, out)
 }
 
@@ -59,6 +63,9 @@ pub extern "C" fn nuorpyts_next(buffer: &[u8], rec: &[u8], state: &mut [u8], out
     ensures after { λ r. ⌜ ElementsIn (now (buffer .entry)) (now (out .entry)) (itemsOf (walkCall (now (buffer .entry)) (now (rec .entry)) (now (state .entry)) (oneRoom 208 (now (out .entry))))) (now (out .exit)) ⌝ }
     ensures whole { λ r. ⌜ ((b : List ℕ) (n : ℕ) (s′ : List ℕ) (rec′ : List ℕ) (b′ : List ℕ) (n′ : ℕ) → length s′ < 2 ^ 64 → Accepted-in (now (buffer .entry)) (now (rec .entry)) b n → Accepted-in s′ rec′ b′ n′ → WholeIn (now (buffer .entry)) (now (rec .entry)) b n s′ rec′ b′ n′) ⌝ }
 {
+    if short_step(buffer, rec, state, out) {
+        return 0;
+    }
     next_step(buffer, rec, state, out)
 }
 

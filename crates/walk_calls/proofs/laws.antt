@@ -2,4 +2,5 @@
 pub mod Steps
 pub mod Fills
 pub mod Messages
+pub mod Short
 pub mod Chain

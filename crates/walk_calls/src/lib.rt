@@ -2,4 +2,5 @@
 // answer's slice has room for, and leaves in the slot the state behind them.
 mod messages;
 mod nodes;
+pub mod short;
 pub mod steps;

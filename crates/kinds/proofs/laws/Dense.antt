@@ -54,6 +54,9 @@ module _ (s : List ℕ) (c : state.Column) (none : zeroNext s c ≡ true) where
   pub byte-within : c .at < length s
   byte-within = omega (arith, within)
 
+  pub byte-stands : columnInside s c ≡ true
+  byte-stands = also-true (le-leb (c .at) (c .end) (omega (arith, within))) (le-leb (c .end) (length s) (within .1))
+
   pub byte-behind : columnInside s behind ≡ true
   byte-behind = also-true (le-leb (c .at + 1) (c .end) (omega (arith, within))) (le-leb (c .end) (length s) (within .1))
 
