@@ -1,6 +1,6 @@
 -- A chain of calls hands out what the slot's state has ahead, over any state and any item: by what each call hands out, and by what the slot
 -- that it leaves has ahead.
-use Prim.Native.Nat.{ℕ, zero, suc, _*_, _≤_, _<_}
+use Prim.Native.Nat.{ℕ, zero, suc, _≤_, _<_}
 use native.Mathlib.Omega.{arith}
 use mathlib.Core.Path.{_≡_, refl, sym, ap, _∙_, subst}
 use mathlib.Core.List.{List, [], _∷_, _++_}

@@ -36,7 +36,7 @@ use Rattle.answers.proofs.laws.Words.{filled-at-length}
 use Rattle.calls.specs.Filling.{StopsAt, PutBy, ItemPutBy, FillingBy}
 use Rattle.calls.proofs.laws.Calls.{fill-begins, fill-on, fill-ends, fill-full, puts-item}
 use Rattle.walk_calls.specs.Steps.{Put, foundBy, putWords}
-use Rattle.walk_calls.specs.Fills.{nodePut, atColumns, Fills, FillsUp, FillsInside}
+use Rattle.walk_calls.specs.Fills.{nodePut, atColumns, FillsUp, FillsInside}
 use Rattle.walk_calls.proofs.laws.Steps.{put-small}
 
 -- ---- one element more

@@ -6,16 +6,13 @@ use mathlib.Core.List.{List}
 use mathlib.Core.Bool.{Bool, true, false}
 use native.Mathlib.Omega.{arith}
 use lib.ListN.{length}
-use lib.Dec.{leb}
-use borrow.Author.Tests.{le-leb, eq-eqb}
+use borrow.Author.Tests.{le-leb}
 use Rattle.numbers.specs.Choose.{choose}
 use Rattle.numbers.specs.Little.{numberAt}
-use Rattle.protobuf.specs.declared.column.Column.{Column}
 use Rattle.columns.specs.Zip.{movedSum}
 use Rattle.columns.proofs.laws.Inside.{also-true}
 use Rattle.columns.proofs.laws.Short.{word-stands}
 use Rattle.kinds.specs.declared.state.DenseColumns.{DenseColumns}
-use Rattle.kinds.specs.declared.dense_nodes.NextNode.{NextNode}
 use Rattle.kinds.specs.Said.{zeroNext, NodeSaid}
 use Rattle.kinds.proofs.laws.Dense.{byte-stands, byte-behind, byte-passed}
 use Rattle.kinds.proofs.laws.Short.{Word, short-found}

@@ -3,8 +3,8 @@ use borrow.Author.Needs.{needs}
 use Prim.Native.Nat.{_-_}
 use native.Mathlib.Omega.{arith}
 use Rattle.walk.specs.declared.state.BlockElementsIter.the-variants as walk
-use Rattle.walk_calls.specs.Fills.{nodePut, atColumns}
-use Rattle.walk_calls.proofs.laws.Fills.{Elements, elements-begin, element-room, elements-on, node-onward}
+use Rattle.walk_calls.specs.Fills.{atColumns}
+use Rattle.walk_calls.proofs.laws.Fills.{Elements, elements-begin, elements-on, node-onward}
 use Rattle.walk_calls.proofs.nodes.fill_nodes.Statement.{statement}
 use Rattle.walk_calls.proofs.nodes.fill_nodes.Tie as tie
 

@@ -4,7 +4,7 @@ use Prim.Native.Nat.{ℕ, _+_, _%_}
 use native.Mathlib.Omega.{arith}
 use mathlib.Core.Path.{_≡_, refl, sym, _∙_}
 use mathlib.Core.Bool.{true}
-use mathlib.Core.List.{List, [], _∷_}
+use mathlib.Core.List.{[], _∷_}
 use Rattle.numbers.specs.Little.{numberAt}
 use Rattle.fields.proofs.laws.Part.{confirmed}
 use Rattle.columns.proofs.laws.Short.{word-within}
