@@ -1,12 +1,16 @@
 // The references of a way, called through C.
+ghost use mathlib.Core.Bool.{true};
 ghost use mathlib.Core.Path.{_≡_};
 ghost use Prim.Native.Nat.{_*_, _≤_};
 ghost use lib.ListN.{length};
 ghost use Rattle.answers.specs.Words.{filled};
+ghost use Rattle.protobuf.specs.Stream.{end};
+ghost use Rattle.protobuf.specs.Column.{ended};
 ghost use Rattle.elements.specs.References.{refsFrom};
 ghost use Rattle.calls.specs.Calls.{answered, oneRoom, roomFor, callCode, itemsOf, itemsPut, countAfter, SlotLeft};
 ghost use Rattle.calls.specs.Filling.{StopsAt, ItemPut, Run, Filled, Called, Served};
 ghost use Rattle.calls.specs.References.{refWords, refsAt, refItem, refsCall};
+use crate::ended::is_at_end;
 use crate::room::Counted;
 use crate::room::one_room;
 use crate::room::put_count;
@@ -155,7 +159,17 @@ fn refs_behind(code: u32, count: usize, state: WayRefIter) -> RefsFilled
     }
 }
 
-// As many references as there is room for.
+// Whether there are no more references, where that can be seen without a step.
+fn has_ended(buffer: &[u8], state: WayRefIter) -> bool
+    ensures { λ r. ⌜ (r ≡ true → refsFrom (now (buffer .entry)) state ≡ end ended) ⌝ }
+{
+    match state {
+        WayRefIter::Ended => true,
+        WayRefIter::Refs(c) => is_at_end(buffer, c.column),
+    }
+}
+
+// As many references as there is room for. What the short way stops before is nearly always the end, which is told without a step.
 fn fill_refs(buffer: &[u8], start: WayRefIter, out: &mut [u8], most: usize) -> RefsFilled
     requires { ⌜ 8 * most ≤ length (now out) ⌝ }
     ensures { λ r. ⌜ Filled refItem (refsFrom (now (buffer .entry))) 8 WayRefIter.Ended (now (out .entry)) (answered most (refsFrom (now (buffer .entry)) start)) (r .code) (r .count) (r .next) (now (out .exit)) ⌝ }
@@ -167,6 +181,9 @@ fn fill_refs(buffer: &[u8], start: WayRefIter, out: &mut [u8], most: usize) -> R
         let next = run.next;
         if run.count == most {
             return refs_behind(OUTSIDE, run.count, next);
+        }
+        if has_ended(buffer, next) {
+            return refs_behind(ENDED, run.count, next);
         }
         let r = put_ref(buffer, next, out, 8 * run.count);
         if r.code != 0 {

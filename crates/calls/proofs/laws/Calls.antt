@@ -174,6 +174,10 @@ module _ {W A B : Type 0} {g : B → A} (f : B → List ℕ) (ahead : W → Colu
               subst (λ (l : List ℕ). FilledBy g f ahead size over out₀ (answered most c₀) code count next l) (sym (r .1 .1))
               (ends-by t (p .items) (p .many) h e (p .so ∙ ap (before (map g (p .items))) e) (p .is) (subst (λ (m : ℕ). StopsAt over m n w code count next) (r .0) q))
 
+      -- the same where the end is known without a step
+      pub fill-ended : n < most → ahead w ≡ end ended → StopsAt over 101 n w code count next → FilledBy g f ahead size over out₀ (answered most c₀) code count next out
+      fill-ended h e q = ends-by ended (p .items) (p .many) h e (p .so ∙ ap (before (map g (p .items))) e) (p .is) q
+
       pub fill-full : most ≤ n → StopsAt over 14 n w code count next → FilledBy g f ahead size over out₀ (answered most c₀) code count next out
       fill-full h q = full-by (p .items) (p .many) (omega (arith, p .within)) (p .so) (p .is) q
 
