@@ -1,6 +1,6 @@
 -- A block through C: the buffer after its scan, what a scan leaves for the other entries, and strings and groups by number, through the
 -- record in a slice.
-use Prim.Native.Nat.{ℕ}
+use Prim.Native.Nat.{ℕ, _^_, _<_}
 use mathlib.Core.Path.{_≡_}
 use mathlib.Core.List.{List}
 use lib.ListN.{length, take}
@@ -27,12 +27,13 @@ abbrev pub scanAfter : List ℕ → ℕ → List ℕ → List ℕ
 scanAfter s block out = choose (leb 72 (length out)) (afterScan s block (scanned s block)) s
 
 -- s and rec are the buffer and the record's slice as a scan of the first n bytes of b left them: the tables are written behind the block,
--- and the slice begins with the record's numbers
+-- and the slice begins with the record's numbers; b is a slice of the machine's
 pub record Scanned-in (s rec b : List ℕ) (n : ℕ) : Type 0 where
   pub scan : Scanned
   pub so : scanned b n ≡ kept scan
   pub buffer : s ≡ written b n (scan .table)
   pub numbers : take 72 rec ≡ words (recordWords (scan .block))
+  pub held : length b < 2 ^ 64
 
 abbrev pub gotBy : Outcome WireBlock → (WireBlock → Got) → Got
 gotBy (kept r) f = f r

@@ -1,7 +1,7 @@
 // A block through C: its scan, and its strings and groups by their number.
 ghost use mathlib.Core.Path.{_≡_};
 ghost use mathlib.Core.List.{List};
-ghost use Prim.Native.Nat.{ℕ, _*_, _≤_};
+ghost use Prim.Native.Nat.{ℕ, _*_, _^_, _≤_, _<_};
 ghost use lib.Dec.{leb};
 ghost use lib.ListN.{length, take};
 ghost use Rattle.numbers.specs.Choose.{choose};
@@ -29,13 +29,15 @@ use wire::scan::scan;
 
 // The block in the buffer's first `block` bytes is scanned: the record goes to `out`, and the tables go right behind the block. 14 first
 // where `out` is shorter than a record; then the scan's refusals, never 13 where the buffer has five times the block's bytes. A refusal writes
-// nothing.
+// nothing. The last clause holds of every slice: said here, it is part of what a scan leaves, and no claim about another buffer needs it as a
+// premise.
 #[no_mangle]
 pub extern "C" fn nuorpyts_scan(buffer: &mut [u8], block: usize, out: &mut [u8]) -> u32
     ensures code { λ r. ⌜ r ≡ answerCode 9 (now (out .entry)) (each meta (scanned (now (buffer .entry)) block)) ⌝ }
     ensures answer { λ r. ⌜ now (out .exit) ≡ answerAfter recordWords (now (out .entry)) (each meta (scanned (now (buffer .entry)) block)) ⌝ }
     ensures after { λ r. ⌜ now (buffer .exit) ≡ scanAfter (now (buffer .entry)) block (now (out .entry)) ⌝ }
     ensures room { λ r. ⌜ (5 * block ≤ length (now (buffer .entry)) → r ≡ 13 → ⊥) ⌝ }
+    ensures held { λ r. ⌜ length (now (buffer .entry)) < 2 ^ 64 ⌝ }
 {
     if out.len() < 72 {
         return OUTSIDE;

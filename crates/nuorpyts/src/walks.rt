@@ -2,7 +2,7 @@
 ghost use mathlib.Core.Path.{_≡_};
 ghost use mathlib.Core.Bool.{true, false};
 ghost use mathlib.Core.List.{List};
-ghost use Prim.Native.Nat.{ℕ, _^_, _<_};
+ghost use Prim.Native.Nat.{ℕ};
 ghost use lib.ListN.{length};
 ghost use lib.Dec.{leb};
 ghost use Rattle.numbers.specs.Choose.{choose};
@@ -47,7 +47,7 @@ pub extern "C" fn nuorpyts_step(buffer: &[u8], rec: &[u8], state: &mut [u8], out
     ensures code { λ r. ⌜ r ≡ callCode (walkCall (now (buffer .entry)) (now (rec .entry)) (now (state .entry)) (oneRoom 208 (now (out .entry)))) ⌝ }
     ensures next { λ r. ⌜ SlotLeft walkAt walkWords BlockElementsIter.Ended (walkIn (now (buffer .entry)) (now (rec .entry))) (now (state .entry)) (walkCall (now (buffer .entry)) (now (rec .entry)) (now (state .entry)) (oneRoom 208 (now (out .entry)))) (now (state .exit)) ⌝ }
     ensures after { λ r. ⌜ ElementsIn (now (buffer .entry)) (now (out .entry)) (itemsOf (walkCall (now (buffer .entry)) (now (rec .entry)) (now (state .entry)) (oneRoom 208 (now (out .entry))))) (now (out .exit)) ⌝ }
-    ensures whole { λ r. ⌜ ((b : List ℕ) (n : ℕ) (s′ : List ℕ) (rec′ : List ℕ) (b′ : List ℕ) (n′ : ℕ) → length s′ < 2 ^ 64 → Accepted-in (now (buffer .entry)) (now (rec .entry)) b n → Accepted-in s′ rec′ b′ n′ → WholeIn (now (buffer .entry)) (now (rec .entry)) b n s′ rec′ b′ n′) ⌝ }
+    ensures whole { λ r. ⌜ ((b : List ℕ) (n : ℕ) (s′ : List ℕ) (rec′ : List ℕ) (b′ : List ℕ) (n′ : ℕ) → Accepted-in (now (buffer .entry)) (now (rec .entry)) b n → Accepted-in s′ rec′ b′ n′ → WholeIn (now (buffer .entry)) (now (rec .entry)) b n s′ rec′ b′ n′) ⌝ }
 {
     if short_step(buffer, rec, state, out) {
         return 0;
@@ -61,7 +61,7 @@ pub extern "C" fn nuorpyts_next(buffer: &[u8], rec: &[u8], state: &mut [u8], out
     ensures code { λ r. ⌜ r ≡ callCode (walkCall (now (buffer .entry)) (now (rec .entry)) (now (state .entry)) (oneRoom 208 (now (out .entry)))) ⌝ }
     ensures next { λ r. ⌜ SlotLeft walkAt walkWords BlockElementsIter.Ended (walkIn (now (buffer .entry)) (now (rec .entry))) (now (state .entry)) (walkCall (now (buffer .entry)) (now (rec .entry)) (now (state .entry)) (oneRoom 208 (now (out .entry)))) (now (state .exit)) ⌝ }
     ensures after { λ r. ⌜ ElementsIn (now (buffer .entry)) (now (out .entry)) (itemsOf (walkCall (now (buffer .entry)) (now (rec .entry)) (now (state .entry)) (oneRoom 208 (now (out .entry))))) (now (out .exit)) ⌝ }
-    ensures whole { λ r. ⌜ ((b : List ℕ) (n : ℕ) (s′ : List ℕ) (rec′ : List ℕ) (b′ : List ℕ) (n′ : ℕ) → length s′ < 2 ^ 64 → Accepted-in (now (buffer .entry)) (now (rec .entry)) b n → Accepted-in s′ rec′ b′ n′ → WholeIn (now (buffer .entry)) (now (rec .entry)) b n s′ rec′ b′ n′) ⌝ }
+    ensures whole { λ r. ⌜ ((b : List ℕ) (n : ℕ) (s′ : List ℕ) (rec′ : List ℕ) (b′ : List ℕ) (n′ : ℕ) → Accepted-in (now (buffer .entry)) (now (rec .entry)) b n → Accepted-in s′ rec′ b′ n′ → WholeIn (now (buffer .entry)) (now (rec .entry)) b n s′ rec′ b′ n′) ⌝ }
 {
     if short_step(buffer, rec, state, out) {
         return 0;
@@ -83,7 +83,7 @@ pub extern "C" fn nuorpyts_steps(
     ensures next { λ r. ⌜ SlotLeft walkAt walkWords BlockElementsIter.Ended (walkIn (now (buffer .entry)) (now (rec .entry))) (now (state .entry)) (walkCall (now (buffer .entry)) (now (rec .entry)) (now (state .entry)) (roomFor 208 (now (out .entry)) (now (count .entry)))) (now (state .exit)) ⌝ }
     ensures after { λ r. ⌜ ElementsIn (now (buffer .entry)) (now (out .entry)) (itemsOf (walkCall (now (buffer .entry)) (now (rec .entry)) (now (state .entry)) (roomFor 208 (now (out .entry)) (now (count .entry))))) (now (out .exit)) ⌝ }
     ensures counted { λ r. ⌜ now (count .exit) ≡ countAfter (now (count .entry)) (itemsOf (walkCall (now (buffer .entry)) (now (rec .entry)) (now (state .entry)) (roomFor 208 (now (out .entry)) (now (count .entry))))) ⌝ }
-    ensures whole { λ r. ⌜ ((b : List ℕ) (n : ℕ) (s′ : List ℕ) (rec′ : List ℕ) (b′ : List ℕ) (n′ : ℕ) → length s′ < 2 ^ 64 → Accepted-in (now (buffer .entry)) (now (rec .entry)) b n → Accepted-in s′ rec′ b′ n′ → WholeIn (now (buffer .entry)) (now (rec .entry)) b n s′ rec′ b′ n′) ⌝ }
+    ensures whole { λ r. ⌜ ((b : List ℕ) (n : ℕ) (s′ : List ℕ) (rec′ : List ℕ) (b′ : List ℕ) (n′ : ℕ) → Accepted-in (now (buffer .entry)) (now (rec .entry)) b n → Accepted-in s′ rec′ b′ n′ → WholeIn (now (buffer .entry)) (now (rec .entry)) b n s′ rec′ b′ n′) ⌝ }
 {
     next_steps(buffer, rec, state, out, count)
 }

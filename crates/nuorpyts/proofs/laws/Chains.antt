@@ -46,7 +46,7 @@ use Rattle.walk_calls.specs.Steps.{Put, foundBy, walkOver, walkIn}
 use Rattle.walk_calls.specs.Chain.{Answer, HandsAll}
 use Rattle.walk_calls.proofs.laws.Chain.{chain-hands}
 use Rattle.nuorpyts.specs.Chains.{Accepted-in, WalkChain, SubChains, ListsIn, WholeIn}
-use Rattle.nuorpyts.proofs.laws.Scanned.{scan-read, as-scanned}
+use Rattle.nuorpyts.proofs.laws.Scanned.{scan-fits, scan-read, as-scanned}
 
 -- over a record that is read
 over-read : {W A : Type 0} {x : Outcome WireBlock} {r : WireBlock} (from : WireBlock → W → Column A) (w : W) → x ≡ kept r → withRecord x (λ (q : WireBlock). from q w) ≡ from r w
@@ -118,7 +118,9 @@ lists-in {s} {rec} fits a =
 
 -- ---- two blocks
 
-pub whole-in : {s rec b s′ rec′ b′ : List ℕ} {n n′ : ℕ} → length s < 2 ^ 64 → length s′ < 2 ^ 64 → Accepted-in s rec b n → Accepted-in s′ rec′ b′ n′ → WholeIn s rec b n s′ rec′ b′ n′
-whole-in fits others x y =
+pub whole-in : {s rec b s′ rec′ b′ : List ℕ} {n n′ : ℕ} → Accepted-in s rec b n → Accepted-in s′ rec′ b′ n′ → WholeIn s rec b n s′ rec′ b′ n′
+whole-in x y =
+    let fits = scan-fits (x .scan) in
+    let others = scan-fits (y .scan) in
     let claim = whole (accepted-by fits x) (accepted-by others y) in
     record { first = lists-in fits x; second = lists-in others y; alike = claim .alike; apart = claim .apart }

@@ -52,15 +52,23 @@ scan-held {b} {n} k h =
       lonoffset = twos-in-range 64 (k .top .lonoffset);
     })
 
+-- the tables stand in the buffer, so that it is as long as before
+scan-long : {s rec b : List ℕ} {n : ℕ} → Scanned-in s rec b n → length s ≡ length b
+scan-long {b = b} {n} h =
+    let x = h .scan in
+    let k = scan-kept b n (h .so) in
+    ap length (h .buffer) ∙ written-length b n (x .table) (omega (arith, k .room, ap (λ (y : Scanned). length (y .table)) (k .is)))
+
+pub scan-fits : {s rec b : List ℕ} {n : ℕ} → Scanned-in s rec b n → length s < 2 ^ 64
+scan-fits h = omega (arith, scan-long h, h .held)
+
 pub scan-read : {s rec b : List ℕ} {n : ℕ} → length s < 2 ^ 64 → (h : Scanned-in s rec b n) → recordIn rec ≡ kept (h .scan .block)
 scan-read {s} {rec} {b} {n} fits h =
     let x = h .scan in
     let ws = recordWords (x .block) in
     let k = scan-kept b n (h .so) in
-    let room : n + length (x .table) ≤ length b = omega (arith, k .room, ap (λ (y : Scanned). length (y .table)) (k .is)) in
-    let same : length s ≡ length b = ap length (h .buffer) ∙ written-length b n (x .table) room in
     let long : 72 ≤ length rec = omega (arith, length-take 72 rec, ap length (h .numbers), words-length ws) in
-    ap recordIn (same-written rec ws (h .numbers)) ∙ record-back rec (x .block) long (scan-held k (omega arith))
+    ap recordIn (same-written rec ws (h .numbers)) ∙ record-back rec (x .block) long (scan-held k (h .held))
 
 -- ---- strings, roles and groups by number
 

@@ -23,7 +23,7 @@ nuorpyts-scan-spec =
     (λ c.
     let out = c .before .before .before .args .out .now in
     let answer = answer-short 9 recordWords out (λ a. refl) (each _ _) (c .if1 .taken) in
-    (answer .0, (answer .1, (too-short 72 out _ _ (c .if1 .taken), λ five is. omega arith))))
+    (answer .0, (answer .1, (too-short 72 out _ _ (c .if1 .taken), (λ five is. omega arith, c .before .before .before .good .0 .0)))))
     (λ c κs. search needs)
     (λ c. search needs)
     (λ c κs. search needs)
@@ -37,7 +37,7 @@ nuorpyts-scan-spec =
     let e = s .before .before in
     let out = e .before .before .before .args .out .now in
     let answer = answer-refused 9 recordWords out (e .if1 .left) (says scannedRecord (s .scan .ensures .0) (c .before .before .s .given .1)) (c .number .ensures) in
-    (answer .0, (answer .1, (tables s, λ five is. s .scan .ensures .1 .1 five (ap scannedRecord (c .before .before .s .given .1) ∙ ap refused (thirteen _ (sym (c .number .ensures) ∙ is)))))))
+    (answer .0, (answer .1, (tables s, (λ five is. s .scan .ensures .1 .1 five (ap scannedRecord (c .before .before .s .given .1) ∙ ap refused (thirteen _ (sym (c .number .ensures) ∙ is))), e .before .before .before .good .0 .0)))))
     (λ c. search needs)
     (λ c. search needs)
     (λ c.
@@ -45,4 +45,4 @@ nuorpyts-scan-spec =
     let e = s .before .before in
     let out = e .before .before .before .args .out .now in
     let answer = answer-kept 9 recordWords out (e .if1 .left) (says scannedRecord (s .scan .ensures .0) (c .before .before .before .before .before .before .before .s2 .given .1)) (c .before .before .before .before .record-numbers .ensures) (c .before .before .put-numbers .ensures) in
-    (answer .0, (answer .1, (tables s, λ five is. omega arith)))))
+    (answer .0, (answer .1, (tables s, (λ five is. omega arith, e .before .before .before .good .0 .0))))))

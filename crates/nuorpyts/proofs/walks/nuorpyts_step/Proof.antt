@@ -10,7 +10,7 @@ by-short-way : tie.Need-returns
 by-short-way c =
     let s = c .before .before .before .before .before in
     let told = step-served _ _ (s .short-step .ensures) (c .if1 .taken) in
-    (told .0, (told .1 .0, (told .1 .1, λ b n s′ rec b′ n′ short x y. whole-in (s .before .before .before .before .before .before .before .good .0 .0) short x y)))
+    (told .0, (told .1 .0, (told .1 .1, λ b n s′ rec b′ n′ x y. whole-in x y)))
 
 by-step : tie.Need-returns-2
 by-step c =
@@ -18,7 +18,7 @@ by-step c =
     let i = called .before .before .before in
     let s = i .before .before .before .before .before in
     let told = step-unserved _ _ (s .short-step .ensures) (i .if1 .left) _ _ _ (called .next-step .ensures) in
-    (told .0, (told .1 .0, (told .1 .1, λ b n s′ rec b′ n′ short x y. whole-in (s .before .before .before .before .before .before .before .good .0 .0) short x y)))
+    (told .0, (told .1 .0, (told .1 .1, λ b n s′ rec b′ n′ x y. whole-in x y)))
 
 pub nuorpyts-step-spec : {M : Type 1} → statement M
 nuorpyts-step-spec =

@@ -8,7 +8,7 @@ returns : tie.Need-returns
 returns c =
     let called = c .before .before .before .before .before .before in
     let told = called .next-steps .ensures in
-    (told .0, (told .1 .0, (told .1 .1 .0, (told .1 .1 .1, λ b n s rec b′ n′ short x y. whole-in (called .before .before .before .before .before .before .before .before .before .good .0 .0) short x y))))
+    (told .0, (told .1 .0, (told .1 .1 .0, (told .1 .1 .1, λ b n s rec b′ n′ x y. whole-in x y))))
 
 pub nuorpyts-steps-spec : {M : Type 1} → statement M
 nuorpyts-steps-spec =
