@@ -3,6 +3,8 @@ ghost use mathlib.Core.Bool.{true};
 ghost use mathlib.Core.Path.{_≡_};
 ghost use Prim.Native.Nat.{_+_, _*_, _≤_};
 ghost use lib.ListN.{length};
+ghost use Rattle.protobuf.specs.Stream.{end};
+ghost use Rattle.protobuf.specs.Column.{ended};
 ghost use Rattle.lookup.specs.Lookup.{isRecordInside};
 ghost use Rattle.answers.specs.Words.{filled};
 ghost use Rattle.elements.specs.Tags.{tagsFrom};
@@ -15,6 +17,7 @@ use answers::record::RecordIn;
 use answers::record::record_in;
 use answers::words::put_at;
 use answers::words::put_numbers;
+use calls::ended::is_at_end;
 use calls::room::Counted;
 use calls::room::one_room;
 use calls::room::put_count;
@@ -321,7 +324,32 @@ pub(crate) fn tags_behind(code: u32, count: usize, state: TagIter) -> TagsFilled
     }
 }
 
-// As many tags as there is room for.
+// Whether there are no more tags, where that can be seen without a step: keys and vals both at their end, or a dense node's pairs at theirs or
+// at a key 0 of one byte.
+fn has_ended(buffer: &[u8], block: WireBlock, state: TagIter) -> bool
+    ensures { λ r. ⌜ (r ≡ true → tagsFrom (now (buffer .entry)) block state ≡ end ended) ⌝ }
+{
+    if !is_inside(buffer, block) {
+        return false;
+    }
+    match state {
+        TagIter::Ended => true,
+        TagIter::Columns(c) => {
+            if !is_at_end(buffer, c.keys) {
+                return false;
+            }
+            is_at_end(buffer, c.vals)
+        }
+        TagIter::KeysVals(c) => {
+            if wide_value(buffer, c.at, c.end) == 1 {
+                return true;
+            }
+            is_at_end(buffer, c)
+        }
+    }
+}
+
+// As many tags as there is room for. What the short way stops before is nearly always the end, which is told without a step.
 fn fill_tags(
     buffer: &[u8],
     block: WireBlock,
@@ -339,6 +367,9 @@ fn fill_tags(
         let next = run.next;
         if run.count == most {
             return tags_behind(OUTSIDE, run.count, next);
+        }
+        if has_ended(buffer, block, next) {
+            return tags_behind(ENDED, run.count, next);
         }
         let r = put_tag(buffer, block, next, out, 48 * run.count);
         if r.code != 0 {

@@ -1,4 +1,5 @@
--- `fill_tags` puts run after run of tags, with a step of its own between two of them, until there is no more room or none more.
+-- `fill_tags` puts run after run of tags, with a step of its own between two of them, until there is no more room or none more; that none is
+-- left is mostly seen without a step.
 use borrow.Author.Needs.{needs}
 use Prim.Native.Nat.{_-_}
 use native.Mathlib.Omega.{arith}
@@ -8,7 +9,7 @@ use Rattle.elements.specs.Tags.{tagsFrom}
 use Rattle.elements.specs.declared.tags.TagIter.the-variants as iter
 use Rattle.calls.specs.Filling.{Filling}
 use Rattle.tag_calls.specs.Tags.{tagItem}
-use Rattle.calls.proofs.laws.Calls.{fill-begins, fill-on, fill-ends, fill-full}
+use Rattle.calls.proofs.laws.Calls.{fill-begins, fill-on, fill-ends, fill-ended, fill-full}
 use Rattle.tag_calls.proofs.tags.fill_tags.Statement.{statement}
 use Rattle.tag_calls.proofs.tags.fill_tags.Tie as tie
 
@@ -35,21 +36,30 @@ fill-tags-spec =
     (λ c κs. search needs)
     (λ c. filled-run (c .before .before .before .before .before) .long)
     (λ c. fill-full _ _ 48 (filled-run (c .before .before .before .before .before)) iter.Ended (omega arith) (c .tags-behind .ensures))
-    (λ c. let p = filled-run (c .before .before .before .before .before .before) in omega arith)
     (λ c κs. search needs)
     (λ c κs. search needs)
-    (λ c. let p = filled-run (c .before .before .before .before .before .before .before .before .before .before .before .before) in c .before .before .before .before .before .put-tag .kept .1 .1 .1 .0 ∙ p .long)
+    (λ c. filled-run (c .before .before .before .before .before .before .before) .long)
     (λ c.
-    let p = filled-run (c .before .before .before .before .before .before .before .before .before .before .before .before) in
-    fill-ends _ _ 48 p iter.Ended (omega arith) (c .before .before .before .before .before .put-tag .ensures) (c .before .if2 .taken) (c .tags-behind2 .ensures))
-    (λ c. let p = filled-run (c .before .before .before .before .before .before .before .before .before .before .before .before) in omega arith)
+    let p = filled-run (c .before .before .before .before .before .before .before) in
+    fill-ended _ _ 48 p iter.Ended (omega arith) (c .before .before .has-ended .ensures (c .before .if2 .taken)) (c .tags-behind2 .ensures))
+    (λ c. let p = filled-run (c .before .before .before .before .before .before .before .before) in omega arith)
+    (λ c κs. search needs)
+    (λ c κs. search needs)
+    (λ c. let p = filled-run (c .before .before .before .before .before .before .before .before .before .before .before .before .before .before) in c .before .before .before .before .before .put-tag .kept .1 .1 .1 .0 ∙ p .long)
     (λ c.
-    let r = c .before .before .before .before .before .before .before .before .before .before .before .before in
+    let p = filled-run (c .before .before .before .before .before .before .before .before .before .before .before .before .before .before) in
+    fill-ends _ _ 48 p iter.Ended (omega arith) (c .before .before .before .before .before .put-tag .ensures) (c .before .if3 .taken) (c .tags-behind3 .ensures))
+    (λ c.
+    let r = c .before .before .before .before .before .before .before .before .before .before .before .before .before .before in
+    let p = filled-run r in
+    omega (arith, r .before .before .before .before .before .before .fits .most))
+    (λ c.
+    let r = c .before .before .before .before .before .before .before .before .before .before .before .before .before .before in
     let p = filled-run r in
     omega (arith, r .short-tags .ensures .onward))
     (λ c.
-    let p = filled-run (c .before .before .before .before .before .before .before .before .before .before .before .before) in
-    fill-on _ _ 48 p (λ x. lit≤ tt) (omega arith) (c .before .before .before .before .before .put-tag .ensures) (c .before .if2 .left))
+    let p = filled-run (c .before .before .before .before .before .before .before .before .before .before .before .before .before .before) in
+    fill-on _ _ 48 p (λ x. lit≤ tt) (omega arith) (c .before .before .before .before .before .put-tag .ensures) (c .before .if3 .left))
     (λ c κs. search needs)
     (λ c. c .before .before .loop .inv .long)
-    (λ c. fill-full _ _ 48 (c .before .before .loop .inv) iter.Ended (c .before .loop-test .left) (c .tags-behind3 .ensures)))
+    (λ c. fill-full _ _ 48 (c .before .before .loop .inv) iter.Ended (c .before .loop-test .left) (c .tags-behind4 .ensures)))
