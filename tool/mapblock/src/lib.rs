@@ -1,0 +1,16 @@
+//! `mapblock`, the support desk's tool over the proved library: what it reads,
+//! asks and prints. `main.rs` only hands over the command line.
+
+pub mod block;
+pub mod check;
+pub mod cli;
+mod fields;
+mod inflate;
+pub mod input;
+mod json;
+pub mod outcomes;
+pub mod output;
+pub mod pbf;
+pub mod place;
+mod progress;
+pub mod words;

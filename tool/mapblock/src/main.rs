@@ -1,0 +1,30 @@
+use std::io::{self, BufWriter, Write};
+use std::process::ExitCode;
+
+use clap::Parser;
+use mapblock::check;
+use mapblock::cli::{Cli, Command};
+use mapblock::output::Status;
+
+fn main() -> ExitCode {
+    let mut out = BufWriter::new(io::stdout().lock());
+    let ended = run(Cli::parse().command, &mut out).and_then(|status| {
+        out.flush()?;
+        Ok(status)
+    });
+    let status = ended.unwrap_or_else(|how| match how.kind() {
+        // Whoever read the pipe has seen enough.
+        io::ErrorKind::BrokenPipe => Status::Fine,
+        _ => {
+            let _ = writeln!(io::stderr(), "mapblock: the output can't be written: {how}");
+            Status::Unread
+        }
+    });
+    ExitCode::from(status as u8)
+}
+
+fn run(command: Command, out: &mut dyn Write) -> io::Result<Status> {
+    match command {
+        Command::Check { files, json } => check::run(&files, json, out),
+    }
+}

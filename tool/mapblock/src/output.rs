@@ -1,0 +1,22 @@
+//! What the tool leaves behind: its exit status, and its complaints.
+
+use std::fmt::Display;
+use std::io::{self, Write};
+use std::path::Path;
+
+/// How a run ended, from best to worst; of several the worst counts.
+#[derive(Clone, Copy, Debug, PartialEq, Eq, PartialOrd, Ord)]
+pub enum Status {
+    /// All accepted; the same.
+    Fine = 0,
+    /// Some refused; different.
+    Refused = 1,
+    /// No such file, no PBF, or nothing could be written.
+    Unread = 2,
+}
+
+/// Says on standard error, in one line, what is wrong with a file.
+pub fn complain(path: &Path, what: impl Display) {
+    // Where standard error is closed, nobody is left to tell.
+    let _ = writeln!(io::stderr(), "mapblock: {}: {what}", path.display());
+}
