@@ -100,17 +100,9 @@ impl Block {
         Ok(range_at(&found, proved::RANGE_START, proved::RANGE_LENGTH))
     }
 
-    /// Where the text of a string stands; none where there is no such string.
-    pub fn string(&mut self, number: usize) -> Option<Range<usize>> {
-        let found = answer::<{ proved::RANGE_SIZE }>(|out| {
-            proved::get(&mut self.buffer, &mut self.record, number, out)
-        });
-        let found = found.ok()?;
-        Some(range_at(&found, proved::RANGE_START, proved::RANGE_LENGTH))
-    }
-
-    /// Where the text of a role stands; none where it has none.
-    pub fn role(&mut self, number: i64) -> Option<Range<usize>> {
+    /// Where the text at a number of the string table stands, as the library
+    /// looks up a role; none where there is no such string.
+    pub fn text_at(&mut self, number: i64) -> Option<Range<usize>> {
         let found = answer::<{ proved::RANGE_SIZE }>(|out| {
             proved::role(&mut self.buffer, &mut self.record, number as usize, out)
         });

@@ -5,21 +5,25 @@ use std::path::PathBuf;
 use clap::{Parser, Subcommand};
 
 const AFTER: &str = "\
-A FILE is a whole .osm.pbf or one block, the raw bytes of a PrimitiveBlock.
-Its first byte tells which: an .osm.pbf begins with 00, the top byte of a
-length, and no block that is accepted does.
+A FILE is a whole .osm.pbf or one block, the raw bytes of a PrimitiveBlock as
+`mapblock blocks` writes them. Its first byte tells which: an .osm.pbf begins
+with 00, the top byte of a length, and no block that is accepted does.
 
 Blocks, groups and elements are counted from 0, as the library counts them.
 
 Examples:
 
-  mapblock check map.osm.pbf                  is it all right? if not, where?";
+  mapblock check map.osm.pbf                  is it all right? if not, where?
+  mapblock blocks map.osm.pbf -o parts        take a map apart
+  mapblock list parts/block-00003.bin         what is in one of its blocks?
+  mapblock compare before.bin after.bin       do both say the same?
+  mapblock report map.osm.pbf -o ticket.html  a page to attach to a ticket";
 
 #[derive(Parser)]
 #[command(
     name = "mapblock",
     version,
-    about = "Checks OSM PBF map blocks as a camera reads them",
+    about = "Checks, lists, compares and draws OSM PBF map blocks as a camera reads them",
     after_help = AFTER,
     arg_required_else_help = true
 )]
@@ -37,6 +41,43 @@ Examples:
   mapblock check parts/*.bin
   mapblock check --json map.osm.pbf | jq '.files[].refused[].number'";
 
+const LIST: &str = "\
+The first line of a block has its granularity, its offsets and how many groups
+it has. Each other line is an element: its group, its kind and id, then its
+position as stored and in degrees, its tags, its nodes or its members. Two
+blocks that list the same give the same lines.
+
+Exit status: 0 all listed, 1 some blocks refused, 2 the file is missing or is
+no PBF.
+
+Examples:
+
+  mapblock list map.osm.pbf | grep '\"waterway\"'
+  mapblock list --full block-00000.bin
+  diff <(mapblock list a.bin) <(mapblock list b.bin)";
+
+const COMPARE: &str = "\
+Metadata, strings that nothing shows, unknown fields and longer spellings of a
+number make no difference. Whole maps are compared block by block.
+
+Exit status: 0 the same, 1 different, 2 either is refused, missing or no PBF.
+
+Examples:
+
+  mapblock compare before.bin after.bin
+  mapblock compare card.osm.pbf office.osm.pbf && echo the card is up to date";
+
+const BLOCKS: &str = "\
+The files are block-00000.bin, block-00001.bin and so on, the raw bytes of each
+PrimitiveBlock, accepted or not.
+
+Exit status: 0 all written, 2 the file is missing or damaged, or nothing can be
+written.
+
+Example:
+
+  mapblock blocks map.osm.pbf -o parts && mapblock check parts/*.bin";
+
 #[derive(Subcommand)]
 pub enum Command {
     /// Says whether a camera accepts the blocks, or what is wrong and where
@@ -48,5 +89,35 @@ pub enum Command {
         /// Prints one JSON object for scripts
         #[arg(long)]
         json: bool,
+    },
+    /// Prints what the blocks hold, a line an element
+    #[command(after_help = LIST)]
+    List {
+        /// A whole map (.osm.pbf) or a single block
+        #[arg(value_name = "FILE")]
+        file: PathBuf,
+        /// Adds the metadata: version, timestamp, changeset, user, visible
+        #[arg(long)]
+        full: bool,
+    },
+    /// Says whether two files list the same, or the first difference
+    #[command(after_help = COMPARE)]
+    Compare {
+        /// A whole map (.osm.pbf) or a single block
+        #[arg(value_name = "A")]
+        first: PathBuf,
+        /// The one that it is compared with
+        #[arg(value_name = "B")]
+        second: PathBuf,
+    },
+    /// Takes a map apart: writes each of its blocks into a file of its own
+    #[command(after_help = BLOCKS)]
+    Blocks {
+        /// A whole map (.osm.pbf)
+        #[arg(value_name = "FILE.osm.pbf")]
+        file: PathBuf,
+        /// The folder for the blocks, which is made where it is missing
+        #[arg(short, long, value_name = "DIR")]
+        output: PathBuf,
     },
 }

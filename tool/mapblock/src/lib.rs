@@ -2,15 +2,20 @@
 //! asks and prints. `main.rs` only hands over the command line.
 
 pub mod block;
+pub mod blocks;
 pub mod check;
 pub mod cli;
+pub mod compare;
+mod elements;
 mod fields;
 mod inflate;
 pub mod input;
 mod json;
+pub mod list;
 pub mod outcomes;
 pub mod output;
 pub mod pbf;
 pub mod place;
 mod progress;
+mod text;
 pub mod words;

@@ -2,9 +2,9 @@ use std::io::{self, BufWriter, Write};
 use std::process::ExitCode;
 
 use clap::Parser;
-use mapblock::check;
 use mapblock::cli::{Cli, Command};
 use mapblock::output::Status;
+use mapblock::{blocks, check, compare, list};
 
 fn main() -> ExitCode {
     let mut out = BufWriter::new(io::stdout().lock());
@@ -26,5 +26,8 @@ fn main() -> ExitCode {
 fn run(command: Command, out: &mut dyn Write) -> io::Result<Status> {
     match command {
         Command::Check { files, json } => check::run(&files, json, out),
+        Command::List { file, full } => list::run(&file, full, out),
+        Command::Compare { first, second } => compare::run(&first, &second, out),
+        Command::Blocks { file, output } => blocks::run(&file, &output, out),
     }
 }

@@ -6,15 +6,34 @@ use std::path::Path;
 
 use crate::block::Block;
 use crate::input::{Blocks, FileBlock};
+use crate::output::{Status, complain};
 use crate::pbf::Damage;
 use crate::place::{self, Place};
 use crate::words;
 
 /// What came of one block, or of a blob that should hold one.
 pub enum Outcome {
+    /// With the block's number in the file, from 0 on.
     Accepted(usize, Block),
     Refused(Refusal),
     Damaged(Damage),
+}
+
+impl Outcome {
+    /// Says in one line what is wrong, and how bad that is.
+    pub fn complain(&self, path: &Path) -> Status {
+        match self {
+            Outcome::Accepted(..) => Status::Fine,
+            Outcome::Refused(refusal) => {
+                complain(path, refusal);
+                Status::Refused
+            }
+            Outcome::Damaged(damage) => {
+                complain(path, damage);
+                Status::Unread
+            }
+        }
+    }
 }
 
 /// A block that the library refuses.

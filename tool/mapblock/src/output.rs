@@ -20,3 +20,8 @@ pub fn complain(path: &Path, what: impl Display) {
     // Where standard error is closed, nobody is left to tell.
     let _ = writeln!(io::stderr(), "mapblock: {}: {what}", path.display());
 }
+
+/// What could be opened; else says in one line why not.
+pub fn opened<T>(path: &Path, opened: Result<T, String>) -> Option<T> {
+    opened.map_err(|why| complain(path, why)).ok()
+}
