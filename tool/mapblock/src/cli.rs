@@ -78,6 +78,18 @@ Example:
 
   mapblock blocks map.osm.pbf -o parts && mapblock check parts/*.bin";
 
+const DRAW: &str = "\
+Roads and paths (highway), fences and walls (barrier), streams, rivers and
+lakes (waterway, natural=water), names of places, with a legend and a scale
+bar. Blocks that are refused are left out, and told on standard error.
+
+Exit status: 0 all drawn, 1 some blocks refused, 2 the file is missing or is no
+PBF, or the picture can't be written.
+
+Example:
+
+  mapblock draw map.osm.pbf -o map.svg";
+
 #[derive(Subcommand)]
 pub enum Command {
     /// Says whether a camera accepts the blocks, or what is wrong and where
@@ -118,6 +130,16 @@ pub enum Command {
         file: PathBuf,
         /// The folder for the blocks, which is made where it is missing
         #[arg(short, long, value_name = "DIR")]
+        output: PathBuf,
+    },
+    /// Draws paths, fences and waters as a picture, SVG
+    #[command(after_help = DRAW)]
+    Draw {
+        /// A whole map (.osm.pbf) or a single block
+        #[arg(value_name = "FILE")]
+        file: PathBuf,
+        /// The picture's file
+        #[arg(short, long, value_name = "map.svg")]
         output: PathBuf,
     },
 }

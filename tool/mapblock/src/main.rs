@@ -4,7 +4,7 @@ use std::process::ExitCode;
 use clap::Parser;
 use mapblock::cli::{Cli, Command};
 use mapblock::output::Status;
-use mapblock::{blocks, check, compare, list};
+use mapblock::{blocks, check, compare, draw, list};
 
 fn main() -> ExitCode {
     let mut out = BufWriter::new(io::stdout().lock());
@@ -28,6 +28,7 @@ fn run(command: Command, out: &mut dyn Write) -> io::Result<Status> {
         Command::Check { files, json } => check::run(&files, json, out),
         Command::List { file, full } => list::run(&file, full, out),
         Command::Compare { first, second } => compare::run(&first, &second, out),
+        Command::Draw { file, output } => draw::run(&file, &output, out),
         Command::Blocks { file, output } => blocks::run(&file, &output, out),
     }
 }

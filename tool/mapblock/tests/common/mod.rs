@@ -1,6 +1,8 @@
 //! The built tool, run as a person would, and files to run it on.
 #![allow(dead_code, reason = "each test file takes what it needs")]
 
+pub mod reserve;
+
 use std::fs;
 use std::io::Write;
 use std::path::{Path, PathBuf};
