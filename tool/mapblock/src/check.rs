@@ -20,13 +20,7 @@ pub struct Checked {
 
 impl Checked {
     fn status(&self) -> Status {
-        if !self.damaged.is_empty() {
-            Status::Unread
-        } else if !self.refused.is_empty() {
-            Status::Refused
-        } else {
-            Status::Fine
-        }
+        Status::of(!self.refused.is_empty(), !self.damaged.is_empty())
     }
 
     fn blocks(&self) -> usize {
@@ -67,7 +61,7 @@ fn check(path: &Path) -> Result<Checked, String> {
     };
     for outcome in outcomes {
         match outcome {
-            Outcome::Accepted(..) => checked.accepted += 1,
+            Outcome::Accepted(_) => checked.accepted += 1,
             Outcome::Refused(refusal) => checked.refused.push(refusal),
             Outcome::Damaged(damage) => checked.damaged.push(damage),
         }

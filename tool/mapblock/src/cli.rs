@@ -90,6 +90,19 @@ Example:
 
   mapblock draw map.osm.pbf -o map.svg";
 
+const REPORT: &str = "\
+One HTML page with nothing outside it: what was checked, each block's outcome
+in plain words, what the accepted blocks hold in all, and the drawing, which
+can be moved and enlarged and tells the tags of what is pointed at.
+
+Exit status: 0 all accepted, 1 some blocks refused, 2 the file is missing or is
+no PBF, or the page can't be written. The page is written in the first two
+cases, and where a map is damaged.
+
+Example:
+
+  mapblock report map.osm.pbf -o report.html";
+
 #[derive(Subcommand)]
 pub enum Command {
     /// Says whether a camera accepts the blocks, or what is wrong and where
@@ -140,6 +153,16 @@ pub enum Command {
         file: PathBuf,
         /// The picture's file
         #[arg(short, long, value_name = "map.svg")]
+        output: PathBuf,
+    },
+    /// Writes one page for a ticket: outcomes, totals and the drawing, HTML
+    #[command(after_help = REPORT)]
+    Report {
+        /// A whole map (.osm.pbf) or a single block
+        #[arg(value_name = "FILE")]
+        file: PathBuf,
+        /// The page's file
+        #[arg(short, long, value_name = "report.html")]
         output: PathBuf,
     },
 }

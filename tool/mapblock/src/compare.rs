@@ -45,13 +45,13 @@ impl Found<'_> {
     fn pair(&mut self, a: Option<Outcome>, b: Option<Outcome>) {
         let names = self.paths.map(|path| path.display().to_string());
         let difference = match (a, b) {
-            (Some(Outcome::Accepted(number, a)), Some(Outcome::Accepted(_, b))) => {
+            (Some(Outcome::Accepted(a)), Some(Outcome::Accepted(b))) => {
                 if self.difference.is_some() {
                     return;
                 }
                 let [first, second] = &names;
-                let found = Sides { first, second }.blocks(a, b);
-                found.map(|words| format!("block {number}: {words}"))
+                let found = Sides { first, second }.blocks(a.block, b.block);
+                found.map(|words| format!("block {}: {words}", a.number))
             }
             (a, b) => {
                 let longer = usize::from(a.is_none());

@@ -4,6 +4,7 @@ use std::fs;
 use std::io::{self, Write};
 use std::path::Path;
 
+use crate::elements::Elements;
 use crate::map::{Map, svg};
 use crate::outcomes::{Outcome, Outcomes};
 use crate::output::{Status, complain, opened};
@@ -15,8 +16,8 @@ pub fn run(path: &Path, picture: &Path, out: &mut dyn Write) -> io::Result<Statu
     let mut map = Map::default();
     let mut status = Status::Fine;
     for outcome in outcomes {
-        if let Outcome::Accepted(_, mut block) = outcome {
-            map.add(&mut block);
+        if let Outcome::Accepted(mut accepted) = outcome {
+            Elements::plain(&mut accepted.block).for_each(|element| map.add(element));
         } else {
             status = status.max(outcome.complain(path));
         }

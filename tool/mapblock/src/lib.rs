@@ -19,6 +19,7 @@ pub mod output;
 pub mod pbf;
 pub mod place;
 mod progress;
+pub mod report;
 mod text;
 pub mod words;
 mod xml;

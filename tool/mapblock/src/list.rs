@@ -4,9 +4,8 @@
 use std::io::{self, Write};
 use std::path::Path;
 
-use crate::block::Block;
 use crate::elements::{Element, Elements, Metadata};
-use crate::outcomes::{Outcome, Outcomes};
+use crate::outcomes::{Accepted, Outcome, Outcomes};
 use crate::output::{Status, opened};
 use crate::text;
 
@@ -16,8 +15,8 @@ pub fn run(path: &Path, is_full: bool, out: &mut dyn Write) -> io::Result<Status
     };
     let mut status = Status::Fine;
     for outcome in outcomes {
-        if let Outcome::Accepted(number, block) = outcome {
-            list(number, block, is_full, out)?;
+        if let Outcome::Accepted(accepted) = outcome {
+            list(accepted, is_full, out)?;
         } else {
             // What was listed stands before the complaint.
             out.flush()?;
@@ -27,7 +26,10 @@ pub fn run(path: &Path, is_full: bool, out: &mut dyn Write) -> io::Result<Status
     Ok(status)
 }
 
-fn list(number: usize, mut block: Block, is_full: bool, out: &mut dyn Write) -> io::Result<()> {
+fn list(accepted: Accepted, is_full: bool, out: &mut dyn Write) -> io::Result<()> {
+    let Accepted {
+        number, mut block, ..
+    } = accepted;
     let head = block.head();
     write!(
         out,

@@ -4,7 +4,7 @@ use std::process::ExitCode;
 use clap::Parser;
 use mapblock::cli::{Cli, Command};
 use mapblock::output::Status;
-use mapblock::{blocks, check, compare, draw, list};
+use mapblock::{blocks, check, compare, draw, list, report};
 
 fn main() -> ExitCode {
     let mut out = BufWriter::new(io::stdout().lock());
@@ -29,6 +29,7 @@ fn run(command: Command, out: &mut dyn Write) -> io::Result<Status> {
         Command::List { file, full } => list::run(&file, full, out),
         Command::Compare { first, second } => compare::run(&first, &second, out),
         Command::Draw { file, output } => draw::run(&file, &output, out),
+        Command::Report { file, output } => report::run(&file, &output, out),
         Command::Blocks { file, output } => blocks::run(&file, &output, out),
     }
 }

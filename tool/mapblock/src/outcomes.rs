@@ -13,8 +13,7 @@ use crate::words;
 
 /// What came of one block, or of a blob that should hold one.
 pub enum Outcome {
-    /// With the block's number in the file, from 0 on.
-    Accepted(usize, Block),
+    Accepted(Accepted),
     Refused(Refusal),
     Damaged(Damage),
 }
@@ -23,7 +22,7 @@ impl Outcome {
     /// Says in one line what is wrong, and how bad that is.
     pub fn complain(&self, path: &Path) -> Status {
         match self {
-            Outcome::Accepted(..) => Status::Fine,
+            Outcome::Accepted(_) => Status::Fine,
             Outcome::Refused(refusal) => {
                 complain(path, refusal);
                 Status::Refused
@@ -34,6 +33,15 @@ impl Outcome {
             }
         }
     }
+}
+
+/// A block that the library accepts.
+pub struct Accepted {
+    /// The block's number in the file, from 0 on.
+    pub number: usize,
+    /// Where its blob begins in the file.
+    pub at: u64,
+    pub block: Block,
 }
 
 /// A block that the library refuses.
@@ -93,21 +101,22 @@ impl Outcomes {
     }
 
     fn outcome(&self, found: FileBlock) -> Outcome {
-        let mut block = Block::read(found.bytes);
+        let FileBlock { number, at, bytes } = found;
+        let mut block = Block::read(bytes);
         if block.is_accepted() {
-            return Outcome::Accepted(found.number, block);
+            return Outcome::Accepted(Accepted { number, at, block });
         }
         let format = (!self.is_pbf).then(|| other_format(block.bytes(0..3)));
         if let Some(format) = format.flatten() {
             return Outcome::Damaged(Damage {
-                at: found.at,
+                at,
                 what: format!("this is {format}, no PBF"),
                 is_last: true,
             });
         }
         Outcome::Refused(Refusal {
-            block: found.number,
-            at: found.at,
+            block: number,
+            at,
             number: block.number(),
             place: place::find(&mut block),
         })

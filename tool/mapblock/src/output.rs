@@ -15,6 +15,17 @@ pub enum Status {
     Unread = 2,
 }
 
+impl Status {
+    /// That of a file with refused blocks, or with damage, or with neither.
+    pub fn of(is_refused: bool, is_damaged: bool) -> Status {
+        match (is_refused, is_damaged) {
+            (_, true) => Status::Unread,
+            (true, false) => Status::Refused,
+            (false, false) => Status::Fine,
+        }
+    }
+}
+
 /// Says on standard error, in one line, what is wrong with a file.
 pub fn complain(path: &Path, what: impl Display) {
     // Where standard error is closed, nobody is left to tell.

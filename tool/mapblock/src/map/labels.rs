@@ -10,10 +10,12 @@ pub struct Label<'a> {
     /// Its name in the style sheet.
     pub id: &'static str,
     pub text: &'a str,
-    /// The middle of the text.
+    /// What it is the name of.
     pub at: Pixel,
     /// In degrees, clockwise.
     pub angle: f64,
+    /// How far above its place its middle is, whatever the map's size.
+    pub lift: f64,
 }
 
 /// A letter's mean width, as a part of its height.
@@ -36,13 +38,14 @@ pub fn place<'a>(
         taken: Vec::new(),
         labels: Vec::new(),
     };
-    for (point, (x, y)) in points {
+    for (point, at) in points {
         let font = point.mark.font_size();
         let label = Label {
             id: point.mark.id(),
             text: &point.name,
-            at: (*x, y - font),
+            at: *at,
             angle: 0.0,
+            lift: font,
         };
         placed.put(label, font);
     }
@@ -95,16 +98,14 @@ impl<'a> Placed<'a> {
             Class::Water | Class::Stream => "on-water",
             _ => "on-line",
         };
-        let text = name;
-        self.put(
-            Label {
-                id,
-                text,
-                at,
-                angle,
-            },
-            LINE_FONT,
-        );
+        let label = Label {
+            id,
+            text: name,
+            at,
+            angle,
+            lift: 0.0,
+        };
+        self.put(label, LINE_FONT);
     }
 
     /// Puts a label where nothing is in its way.
@@ -133,7 +134,7 @@ fn area(label: &Label, font: f64) -> Area {
     let (sin, cos) = label.angle.to_radians().abs().sin_cos();
     let (w, h) = (width(label.text, font), font * 1.2);
     let (half_w, half_h) = ((w * cos + h * sin) / 2.0, (w * sin + h * cos) / 2.0);
-    let (x, y) = label.at;
+    let (x, y) = (label.at.0, label.at.1 - label.lift);
     [x - half_w, y - half_h, x + half_w, y + half_h]
 }
 

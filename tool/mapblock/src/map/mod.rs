@@ -10,8 +10,7 @@ mod svg;
 
 use std::collections::HashMap;
 
-use crate::block::Block;
-use crate::elements::{Element, Elements, Kind, MemberKind, Text};
+use crate::elements::{Element, Kind, MemberKind, Text};
 use rings::rings;
 use style::{Class, Mark};
 
@@ -55,14 +54,12 @@ struct Point {
 }
 
 impl Map {
-    /// Adds the elements of an accepted block.
-    pub fn add(&mut self, block: &mut Block) {
-        for element in Elements::plain(block) {
-            match element.kind {
-                Kind::DenseNode | Kind::Node => self.node(&element),
-                Kind::Way => self.way(element),
-                Kind::Relation => self.relation(&element),
-            }
+    /// Adds an element of an accepted block.
+    pub fn add(&mut self, element: Element) {
+        match element.kind {
+            Kind::DenseNode | Kind::Node => self.node(&element),
+            Kind::Way => self.way(element),
+            Kind::Relation => self.relation(&element),
         }
     }
 

@@ -114,17 +114,17 @@ fn put_line(out: &mut String, line: &[Pixel]) {
 }
 
 fn put_label(out: &mut String, label: &Label) {
+    let (x, y) = label.at;
     let Label {
-        id,
-        at: (x, y),
-        angle,
-        ..
+        id, angle, lift, ..
     } = label;
     let text = escape(label.text);
     put(
         out,
         format_args!(
-            "<text class=\"label {id}\" transform=\"translate({x:.1} {y:.1}) rotate({angle:.0})\">{text}</text>\n"
+            "<text class=\"label {id}\" y=\"{:.0}\" transform=\"translate({x:.1} {y:.1}) \
+             rotate({angle:.0})\">{text}</text>\n",
+            0.0 - lift
         ),
     );
 }
