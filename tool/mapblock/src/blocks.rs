@@ -7,6 +7,7 @@ use std::path::{Path, PathBuf};
 
 use crate::input::{Blocks, FileBlock};
 use crate::output::{Status, complain, opened};
+use crate::text::counted;
 
 pub fn run(path: &Path, folder: &Path, out: &mut dyn Write) -> io::Result<Status> {
     let Some(blocks) = opened(path, Blocks::open(path)) else {
@@ -36,7 +37,8 @@ pub fn run(path: &Path, folder: &Path, out: &mut dyn Write) -> io::Result<Status
             }
         }
     }
-    writeln!(out, "{written} blocks written to {}", folder.display())?;
+    let written = counted(written, "block");
+    writeln!(out, "{written} written to {}", folder.display())?;
     Ok(status)
 }
 

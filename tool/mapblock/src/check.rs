@@ -8,6 +8,7 @@ use crate::outcomes::{Outcome, Outcomes, Refusal};
 use crate::output::{Status, complain};
 use crate::pbf::Damage;
 use crate::place::Place;
+use crate::text::counted;
 use crate::words;
 
 /// What came of one file that could be opened.
@@ -86,16 +87,16 @@ fn tell(path: &Path, checked: &Result<Checked, String>, out: &mut dyn Write) -> 
     for damage in &checked.damaged {
         complain(path, damage);
     }
-    match (checked.is_pbf, checked.blocks(), checked.refused.len()) {
-        (false, 1, 0) => writeln!(out, "{name}: accepted"),
+    let blocks = counted(checked.blocks(), "block");
+    match (checked.is_pbf, checked.accepted, checked.refused.len()) {
+        (false, 1, _) => writeln!(out, "{name}: accepted"),
         (false, ..) => Ok(()),
-        (true, 0, _) => writeln!(out, "{name}: no blocks"),
-        (true, blocks, 0) => writeln!(out, "{name}: {blocks} blocks, all accepted"),
-        (true, blocks, refused) => {
-            let accepted = checked.accepted;
+        (true, 0, 0) => writeln!(out, "{name}: no blocks"),
+        (true, _, 0) => writeln!(out, "{name}: {blocks}, all accepted"),
+        (true, accepted, refused) => {
             writeln!(
                 out,
-                "{name}: {blocks} blocks, {accepted} accepted, {refused} refused"
+                "{name}: {blocks}, {accepted} accepted, {refused} refused"
             )
         }
     }

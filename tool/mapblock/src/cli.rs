@@ -1,8 +1,12 @@
 //! The command line: what may be typed, and the help that teaches it.
 
+use std::io::{self, Write};
 use std::path::PathBuf;
 
-use clap::{Parser, Subcommand};
+use clap::{CommandFactory, Parser, Subcommand};
+use clap_complete::{Shell, generate};
+
+use crate::output::Status;
 
 const AFTER: &str = "\
 A FILE is a whole .osm.pbf or one block, the raw bytes of a PrimitiveBlock as
@@ -67,17 +71,6 @@ Examples:
   mapblock compare before.bin after.bin
   mapblock compare card.osm.pbf office.osm.pbf && echo the card is up to date";
 
-const BLOCKS: &str = "\
-The files are block-00000.bin, block-00001.bin and so on, the raw bytes of each
-PrimitiveBlock, accepted or not.
-
-Exit status: 0 all written, 2 the file is missing or damaged, or nothing can be
-written.
-
-Example:
-
-  mapblock blocks map.osm.pbf -o parts && mapblock check parts/*.bin";
-
 const DRAW: &str = "\
 Roads and paths (highway), fences and walls (barrier), streams, rivers and
 lakes (waterway, natural=water), names of places, with a legend and a scale
@@ -102,6 +95,17 @@ cases, and where a map is damaged.
 Example:
 
   mapblock report map.osm.pbf -o report.html";
+
+const BLOCKS: &str = "\
+The files are block-00000.bin, block-00001.bin and so on, the raw bytes of each
+PrimitiveBlock, accepted or not.
+
+Exit status: 0 all written, 2 the file is missing or damaged, or nothing can be
+written.
+
+Example:
+
+  mapblock blocks map.osm.pbf -o parts && mapblock check parts/*.bin";
 
 #[derive(Subcommand)]
 pub enum Command {
@@ -135,16 +139,6 @@ pub enum Command {
         #[arg(value_name = "B")]
         second: PathBuf,
     },
-    /// Takes a map apart: writes each of its blocks into a file of its own
-    #[command(after_help = BLOCKS)]
-    Blocks {
-        /// A whole map (.osm.pbf)
-        #[arg(value_name = "FILE.osm.pbf")]
-        file: PathBuf,
-        /// The folder for the blocks, which is made where it is missing
-        #[arg(short, long, value_name = "DIR")]
-        output: PathBuf,
-    },
     /// Draws paths, fences and waters as a picture, SVG
     #[command(after_help = DRAW)]
     Draw {
@@ -165,4 +159,25 @@ pub enum Command {
         #[arg(short, long, value_name = "report.html")]
         output: PathBuf,
     },
+    /// Takes a map apart: writes each of its blocks into a file of its own
+    #[command(after_help = BLOCKS)]
+    Blocks {
+        /// A whole map (.osm.pbf)
+        #[arg(value_name = "FILE.osm.pbf")]
+        file: PathBuf,
+        /// The folder for the blocks, which is made where it is missing
+        #[arg(short, long, value_name = "DIR")]
+        output: PathBuf,
+    },
+    /// Prints the completion for bash: source <(mapblock completion)
+    Completion,
+}
+
+/// Prints what bash needs to complete the command line.
+pub fn completion(out: &mut dyn Write) -> io::Result<Status> {
+    // Into memory first: the generator panics where its output is closed.
+    let mut script = Vec::new();
+    generate(Shell::Bash, &mut Cli::command(), "mapblock", &mut script);
+    out.write_all(&script)?;
+    Ok(Status::Fine)
 }

@@ -2,7 +2,7 @@ use std::io::{self, BufWriter, Write};
 use std::process::ExitCode;
 
 use clap::Parser;
-use mapblock::cli::{Cli, Command};
+use mapblock::cli::{self, Cli, Command};
 use mapblock::output::Status;
 use mapblock::{blocks, check, compare, draw, list, report};
 
@@ -31,5 +31,6 @@ fn run(command: Command, out: &mut dyn Write) -> io::Result<Status> {
         Command::Draw { file, output } => draw::run(&file, &output, out),
         Command::Report { file, output } => report::run(&file, &output, out),
         Command::Blocks { file, output } => blocks::run(&file, &output, out),
+        Command::Completion => cli::completion(out),
     }
 }

@@ -12,6 +12,7 @@ use std::ops::Range;
 use proved::InRange;
 
 use crate::block::{Block, Messages, Refs, Walk, part};
+use crate::text::counted;
 use crate::words::NOT_UTF8;
 
 /// Where a block is refused. All counts begin at 0, as the library's do.
@@ -94,7 +95,7 @@ fn own_fields(block: &mut Block, number: u32, whole: Range<usize>) -> Place {
     while let Some(group) = block.message(&mut groups) {
         (count, end) = (count + 1, group.end);
     }
-    let what = format!("the block's own fields, behind {count} groups");
+    let what = format!("the block's own fields, behind {}", counted(count, "group"));
     let byte = certain_at(number, &whole, |len| code(read_fields(block, &(0..len))));
     at(number, &what, end..whole.end, byte)
 }
@@ -336,9 +337,11 @@ impl Finder<'_> {
         self.element = Some(Element {
             kind: kind.name,
             index,
-            id: self.id_in_front(kind, message),
+            id: None,
         });
-        let view = self.ask(kind.view, message, "its fields")?;
+        let view = self
+            .ask(kind.view, message, "its fields")
+            .map_err(|place| with_id(place, self.id_in_front(kind, message)))?;
         if let Some(element) = &mut self.element {
             element.id = Some(proved::number(&view, kind.id) as i64);
         }
@@ -352,8 +355,8 @@ impl Finder<'_> {
         Ok(())
     }
 
-    /// The id of an element that may be refused further behind: most writers
-    /// put it first. 0 also stands for none, so it is not told.
+    /// The id of an element that is refused further behind: most writers put
+    /// it first. 0 also stands for none, so it is not told.
     fn id_in_front(&mut self, kind: &Kind, message: &Range<usize>) -> Option<i64> {
         let first = (1..=message.len().min(LONGEST_ID)).find_map(|len| {
             let front = message.start..message.start + len;
@@ -374,7 +377,7 @@ impl Finder<'_> {
         if counts.iter().all(|&count| count == first) {
             return Ok(first);
         }
-        let what = format!("its columns ({})", counted(columns, &counts));
+        let what = format!("its columns ({})", counts_of(columns, &counts));
         let present = || columns.iter().filter_map(|(_, column)| column.as_ref());
         let start = present().map(|column| column.start).min().unwrap_or(0);
         let end = present().map(|column| column.end).max().unwrap_or(0);
@@ -416,8 +419,15 @@ impl Finder<'_> {
     }
 }
 
+fn with_id(mut place: Place, id: Option<i64>) -> Place {
+    if let Some(element) = &mut place.element {
+        element.id = id;
+    }
+    place
+}
+
 /// `keys has 3 values, vals has 2`.
-fn counted(columns: &[Column], counts: &[usize]) -> String {
+fn counts_of(columns: &[Column], counts: &[usize]) -> String {
     let mut told = String::new();
     for ((name, _), count) in columns.iter().zip(counts) {
         let (comma, values) = if told.is_empty() {

@@ -23,6 +23,12 @@ pub fn quoted(text: &[u8]) -> String {
     out
 }
 
+/// `1 block`, `7 blocks`.
+pub fn counted(count: usize, what: &str) -> String {
+    let plural = if count == 1 { "" } else { "s" };
+    format!("{count} {what}{plural}")
+}
+
 /// `"highway"="path"`.
 pub fn tag((key, value): &(Vec<u8>, Vec<u8>)) -> String {
     format!("{}={}", quoted(key), quoted(value))

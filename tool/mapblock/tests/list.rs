@@ -233,7 +233,7 @@ fn what_can_t_be_taken_apart_or_written_is_told() {
     let cut = run(&folder, &["blocks", "a.osm.pbf", "-o", "parts"]);
     assert_eq!(
         (cut.status, cut.out.as_str()),
-        (2, "1 blocks written to parts\n")
+        (2, "1 block written to parts\n")
     );
 }
 
