@@ -80,11 +80,9 @@ impl Block {
 
     /// What the scan says of the block's first bytes alone. It is lent no room
     /// for tables, so that it writes nothing over the rest.
-    pub fn scan_front(&mut self, len: usize) -> u32 {
-        let Some(front) = self.buffer.get_mut(..len) else {
-            return proved::OUTSIDE;
-        };
-        proved::scan(front, len, &mut [0; proved::RECORD_SIZE])
+    pub fn scan_front(&mut self, len: usize) -> Result<(), u32> {
+        let front = self.buffer.get_mut(..len).ok_or(proved::OUTSIDE)?;
+        done(proved::scan(front, len, &mut [0; proved::RECORD_SIZE]))
     }
 
     /// The bytes of a range; none of them where it passes the buffer.

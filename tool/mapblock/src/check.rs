@@ -91,6 +91,7 @@ fn tell(path: &Path, checked: &Result<Checked, String>, out: &mut dyn Write) -> 
     match (checked.is_pbf, checked.accepted, checked.refused.len()) {
         (false, 1, _) => writeln!(out, "{name}: accepted"),
         (false, ..) => Ok(()),
+        (true, 0, 0) if !checked.damaged.is_empty() => Ok(()),
         (true, 0, 0) => writeln!(out, "{name}: no blocks"),
         (true, _, 0) => writeln!(out, "{name}: {blocks}, all accepted"),
         (true, accepted, refused) => {

@@ -3,6 +3,7 @@
 use std::io::{self, Write};
 use std::path::PathBuf;
 
+use clap::error::ErrorKind;
 use clap::{CommandFactory, Parser, Subcommand};
 use clap_complete::{Shell, generate};
 
@@ -171,6 +172,44 @@ pub enum Command {
     },
     /// Prints the completion for bash: source <(mapblock completion)
     Completion,
+}
+
+/// What was typed; where that is no command, prints the help that was asked
+/// for, or says in one line what was not understood.
+pub fn parse() -> Result<Command, Status> {
+    let how = match Cli::try_parse() {
+        Ok(cli) => return Ok(cli.command),
+        Err(how) => how,
+    };
+    let is_help = how.kind() == ErrorKind::DisplayHelpOnMissingArgumentOrSubcommand;
+    if is_help || !how.use_stderr() {
+        // Where the output is closed, nobody is left to teach.
+        let _ = how.print();
+    } else {
+        let why = one_line(&how.to_string());
+        let _ = writeln!(
+            io::stderr(),
+            "mapblock: {why}; mapblock --help says what there is"
+        );
+    }
+    let status = if how.use_stderr() {
+        Status::Unread
+    } else {
+        Status::Fine
+    };
+    Err(status)
+}
+
+/// The first paragraph of a complaint, and the one that has a suggestion.
+fn one_line(complaint: &str) -> String {
+    let line = |paragraph: &str| paragraph.split_whitespace().collect::<Vec<_>>().join(" ");
+    let mut paragraphs = complaint.split("\n\n");
+    let first = line(paragraphs.next().unwrap_or_default());
+    let first = first.strip_prefix("error: ").unwrap_or(&first);
+    match paragraphs.find(|words| words.contains("Did you mean")) {
+        Some(suggestion) => format!("{first} ({})", line(suggestion)),
+        None => first.to_string(),
+    }
 }
 
 /// Prints what bash needs to complete the command line.

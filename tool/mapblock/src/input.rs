@@ -108,7 +108,6 @@ fn one_block(file: &mut BufReader<File>) -> Result<(u64, Vec<u8>), Damage> {
         Err(how) => Err(Damage {
             at: bytes.len() as u64,
             what: format!("the file can't be read: {}", reason(&how)),
-            is_last: true,
         }),
     }
 }

@@ -1,14 +1,17 @@
 use std::io::{self, BufWriter, Write};
 use std::process::ExitCode;
 
-use clap::Parser;
-use mapblock::cli::{self, Cli, Command};
+use mapblock::cli::{self, Command};
 use mapblock::output::Status;
 use mapblock::{blocks, check, compare, draw, list, report};
 
 fn main() -> ExitCode {
+    let command = match cli::parse() {
+        Ok(command) => command,
+        Err(status) => return ExitCode::from(status as u8),
+    };
     let mut out = BufWriter::new(io::stdout().lock());
-    let ended = run(Cli::parse().command, &mut out).and_then(|status| {
+    let ended = run(command, &mut out).and_then(|status| {
         out.flush()?;
         Ok(status)
     });

@@ -111,7 +111,6 @@ impl Outcomes {
             return Outcome::Damaged(Damage {
                 at,
                 what: format!("this is {format}, no PBF"),
-                is_last: true,
             });
         }
         Outcome::Refused(Refusal {

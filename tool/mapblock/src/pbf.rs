@@ -18,8 +18,28 @@ pub struct Damage {
     /// Where in the file the blob begins.
     pub at: u64,
     pub what: String,
-    /// Whether nothing behind it can be found.
-    pub is_last: bool,
+}
+
+/// Why a blob's content can't be had.
+enum Unread {
+    /// The next one may be all right.
+    Blob(String),
+    /// The others will be the same.
+    File(String),
+}
+
+impl Unread {
+    fn what(self) -> String {
+        match self {
+            Unread::Blob(what) | Unread::File(what) => what,
+        }
+    }
+}
+
+impl From<String> for Unread {
+    fn from(what: String) -> Unread {
+        Unread::Blob(what)
+    }
 }
 
 /// The blobs of a file, from where it is read on.
@@ -54,19 +74,21 @@ impl<R: Read> Blobs<R> {
     pub fn next_block(&mut self) -> Option<Result<(u64, Vec<u8>), Damage>> {
         while !self.ended {
             let at = self.at;
-            match self.next_blob() {
-                Ok(None) => self.ended = true,
-                Ok(Some((header, blob))) => {
-                    if header.is_data {
-                        let content = content(&blob).map(|block| (at, block));
-                        return Some(content.map_err(|what| damage(at, what, false)));
-                    }
-                }
-                Err(what) => {
+            let content = match self.next_blob() {
+                Ok(None) => {
                     self.ended = true;
-                    return Some(Err(damage(at, what, true)));
+                    continue;
                 }
-            }
+                Ok(Some((header, _))) if !header.is_data => continue,
+                Ok(Some((_, blob))) => content(&blob),
+                Err(what) => Err(Unread::File(what)),
+            };
+            self.ended = matches!(content, Err(Unread::File(_)));
+            let content = content.map(|block| (at, block));
+            return Some(content.map_err(|unread| Damage {
+                at,
+                what: unread.what(),
+            }));
         }
         None
     }
@@ -109,10 +131,6 @@ impl<R: Read> Blobs<R> {
     }
 }
 
-fn damage(at: u64, what: String, is_last: bool) -> Damage {
-    Damage { at, what, is_last }
-}
-
 fn whole<const N: usize>(bytes: Vec<u8>, what: &str) -> Result<[u8; N], String> {
     bytes
         .try_into()
@@ -144,7 +162,7 @@ fn header(bytes: &[u8]) -> Result<Header, String> {
 }
 
 /// Blob: 1 raw, 2 raw_size, 3 zlib_data, and other compressions.
-fn content(blob: &[u8]) -> Result<Vec<u8>, String> {
+fn content(blob: &[u8]) -> Result<Vec<u8>, Unread> {
     let mut size = None;
     let mut data = None;
     for (number, value) in fields(blob).map_err(|how| format!("it can't be read: {how}"))? {
@@ -161,17 +179,21 @@ fn content(blob: &[u8]) -> Result<Vec<u8>, String> {
         Some((5, _)) => return Err(unread("bzip2")),
         Some((6, _)) => return Err(unread("lz4")),
         Some((7, _)) => return Err(unread("zstd")),
-        _ => return Err("it has neither raw nor zlib data".to_string()),
+        _ => return Err(Unread::Blob("it has neither raw nor zlib data".to_string())),
     };
     match size {
-        Some(size) if size != content.len() as u64 => Err(format!(
+        Some(size) if size != content.len() as u64 => Err(Unread::Blob(format!(
             "it names {size} bytes, and its zlib data inflate to {}",
             content.len()
-        )),
+        ))),
         _ => Ok(content),
     }
 }
 
-fn unread(compression: &str) -> String {
-    format!("it is compressed by {compression}; raw and zlib data are read")
+/// A writer compresses all blobs in one way.
+fn unread(compression: &str) -> Unread {
+    Unread::File(format!(
+        "it is compressed by {compression}; raw and zlib data are read \
+         (osmium cat -f pbf,pbf_compression=zlib writes those)"
+    ))
 }

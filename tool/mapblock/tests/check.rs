@@ -256,7 +256,22 @@ fn help_teaches_by_examples() {
     assert_eq!(help.status, 0);
     let none = run(&folder, &[]);
     assert_eq!(none.status, 2);
-    let wrong = run(&folder, &["chek"]);
-    assert_eq!(wrong.status, 2);
-    assert!(wrong.err.contains("chek"));
+    assert!(none.err.contains("mapblock check map.osm.pbf"));
+}
+
+#[test]
+fn what_is_not_understood_is_one_line() {
+    let folder = folder("misused");
+    for (arguments, words) in [
+        (&["chek"][..], "Did you mean 'check'?"),
+        (&["check"], "<FILE>..."),
+        (&["draw", "a"], "--output <map.svg>"),
+        (&["list", "--ful", "a"], "Did you mean '--full'?"),
+    ] {
+        let run = run(&folder, arguments);
+        assert_eq!((run.status, run.out.as_str()), (2, ""));
+        assert_eq!(run.err.lines().count(), 1, "{}", run.err);
+        assert!(run.err.starts_with("mapblock: "), "{}", run.err);
+        assert!(run.err.contains(words), "{}", run.err);
+    }
 }

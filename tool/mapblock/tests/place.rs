@@ -71,7 +71,7 @@ fn group_kind_element_and_bytes_are_told() {
     let long = way(8, &len_field(8, &[[2; 3].as_slice(), &[0xFF; 11]].concat()));
     assert_eq!(
         told(&block(&[&[], &[good.clone(), uneven]])),
-        "group 1, way 1 (id 6), its columns (keys has 3 values, vals has 1): \
+        "group 1, way 1 (id 6), how many values its columns have (keys has 3, vals has 1): \
          bytes 14 to 19 of the block, certain at byte 19"
     );
     assert_eq!(
@@ -93,6 +93,18 @@ fn dense_nodes_are_told_by_their_number() {
         told(&block(&[&[dense]])),
         "group 0, dense node 1, its tags in the column keys_vals: \
          bytes 21 to 24 of the block, certain at byte 24"
+    );
+}
+
+#[test]
+fn a_number_that_is_too_long_is_told_where_it_ends() {
+    let columns = [1, 8, 9].map(|field| len_field(field, &[2, 2])).concat();
+    let tags = len_field(10, &[&[0, 1][..], &[0xFF; 11], &[0]].concat());
+    let dense = len_field(2, &[columns, tags].concat());
+    assert_eq!(
+        told(&block(&[&[dense]])),
+        "group 0, dense node 1, its tags in the column keys_vals: \
+         bytes 18 to 31 of the block, certain at byte 29"
     );
 }
 

@@ -18,7 +18,7 @@ fn page(folder: &Path) -> String {
     file(folder, "a<b.osm.pbf", &map);
     let run = run(folder, &["report", "a<b.osm.pbf", "-o", "report.html"]);
     assert_eq!(run.out, "report.html: written\n");
-    assert_eq!((run.status, run.err.as_str()), (2, ""));
+    assert_eq!((run.status, run.err.lines().count()), (2, 2), "{}", run.err);
     fs::read_to_string(folder.join("report.html")).expect("the page")
 }
 

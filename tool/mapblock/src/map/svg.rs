@@ -156,7 +156,7 @@ fn put_scale_bar(out: &mut String, metre: f64, y: f64) {
     put(
         out,
         format_args!(
-            "<g id=\"scale\" data-metre=\"{metre:.6}\" data-longest=\"{LONGEST_BAR}\">\n\
+            "<g id=\"scale\" data-metre=\"{metre:.6e}\" data-longest=\"{LONGEST_BAR}\">\n\
          <path class=\"bar\" d=\"M{left:.1} {y:.1} v6 H{right:.1} v-6\"/>\n"
         ),
     );

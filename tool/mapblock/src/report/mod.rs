@@ -61,6 +61,7 @@ fn read(path: &Path, outcomes: Outcomes) -> Report {
         map: Map::default(),
     };
     for outcome in outcomes {
+        outcome.complain(path);
         match outcome {
             Outcome::Accepted(accepted) => report.accept(accepted),
             Outcome::Refused(refusal) => report.refused.push(refusal),
