@@ -50,7 +50,7 @@ impl Found<'_> {
                     return;
                 }
                 let [first, second] = &names;
-                let found = Sides { first, second }.blocks(a.block, b.block);
+                let found = difference([first, second], a.block, b.block);
                 found.map(|words| format!("block {}: {words}", a.number))
             }
             (a, b) => {
@@ -78,6 +78,21 @@ impl Found<'_> {
     }
 }
 
+/// Said where the library's comparison and the listing do not agree, which is
+/// a fault of one of them.
+pub const UNLISTED: &str = "the library says that they differ, and no difference is listed";
+
+/// The first difference between two accepted blocks of these names; none where
+/// the library says that they list the same.
+pub fn difference([first, second]: [&str; 2], mut a: Block, mut b: Block) -> Option<String> {
+    if a.lists_the_same(&mut b) == Ok(true) {
+        return None;
+    }
+    let sides = Sides { first, second };
+    let found = sides.heads(&a.head(), &b.head());
+    Some(found.unwrap_or_else(|| sides.elements(&mut a, &mut b)))
+}
+
 /// What the two files are called where they differ.
 struct Sides<'a> {
     first: &'a str,
@@ -85,16 +100,6 @@ struct Sides<'a> {
 }
 
 impl Sides<'_> {
-    /// The first difference between two accepted blocks; none where the
-    /// library says that they list the same.
-    fn blocks(&self, mut a: Block, mut b: Block) -> Option<String> {
-        if a.lists_the_same(&mut b) == Ok(true) {
-            return None;
-        }
-        let found = self.heads(&a.head(), &b.head());
-        Some(found.unwrap_or_else(|| self.elements(&mut a, &mut b)))
-    }
-
     fn heads(&self, a: &Head, b: &Head) -> Option<String> {
         let groups = (a.groups as i64, b.groups as i64);
         [

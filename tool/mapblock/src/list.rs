@@ -4,8 +4,9 @@
 use std::io::{self, Write};
 use std::path::Path;
 
+use crate::block::Block;
 use crate::elements::{Element, Elements, Metadata};
-use crate::outcomes::{Accepted, Outcome, Outcomes};
+use crate::outcomes::{Outcome, Outcomes};
 use crate::output::{Status, opened};
 use crate::text;
 
@@ -16,7 +17,7 @@ pub fn run(path: &Path, is_full: bool, out: &mut dyn Write) -> io::Result<Status
     let mut status = Status::Fine;
     for outcome in outcomes {
         if let Outcome::Accepted(accepted) = outcome {
-            list(accepted, is_full, out)?;
+            list(accepted.number, accepted.block, is_full, out)?;
         } else {
             // What was listed stands before the complaint.
             out.flush()?;
@@ -26,10 +27,8 @@ pub fn run(path: &Path, is_full: bool, out: &mut dyn Write) -> io::Result<Status
     Ok(status)
 }
 
-fn list(accepted: Accepted, is_full: bool, out: &mut dyn Write) -> io::Result<()> {
-    let Accepted {
-        number, mut block, ..
-    } = accepted;
+/// Prints an accepted block; `number` is the block's number in its file.
+pub fn list(number: usize, mut block: Block, is_full: bool, out: &mut dyn Write) -> io::Result<()> {
     let head = block.head();
     write!(
         out,
