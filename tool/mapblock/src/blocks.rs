@@ -6,7 +6,7 @@ use std::io::{self, Write};
 use std::path::{Path, PathBuf};
 
 use crate::input::{Blocks, FileBlock};
-use crate::output::{Status, complain, opened};
+use crate::output::{Status, complain, complain_of, opened};
 use crate::text::counted;
 
 pub fn run(path: &Path, folder: &Path, out: &mut dyn Write) -> io::Result<Status> {
@@ -21,7 +21,7 @@ pub fn run(path: &Path, folder: &Path, out: &mut dyn Write) -> io::Result<Status
         complain(folder, format!("the folder can't be made: {how}"));
         return Ok(Status::Unread);
     }
-    let (mut status, mut written) = (Status::Fine, 0);
+    let (mut faults, mut written) = (Vec::new(), 0);
     for block in blocks.with_progress() {
         match block {
             Ok(block) => {
@@ -31,15 +31,12 @@ pub fn run(path: &Path, folder: &Path, out: &mut dyn Write) -> io::Result<Status
                 }
                 written += 1;
             }
-            Err(damage) => {
-                complain(path, damage);
-                status = Status::Unread;
-            }
+            Err(damage) => faults.push((Status::Unread, damage.to_string())),
         }
     }
     let written = counted(written, "block");
     writeln!(out, "{written} written to {}", folder.display())?;
-    Ok(status)
+    Ok(complain_of(path, faults))
 }
 
 /// `block-00017.bin`, so that names sort as the blocks stand in the file.

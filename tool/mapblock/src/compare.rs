@@ -8,18 +8,19 @@ use std::path::Path;
 use crate::block::{Block, Head};
 use crate::elements::{Element, Elements};
 use crate::outcomes::{Outcome, Outcomes};
-use crate::output::{Status, opened};
+use crate::output::{Fault, Status, complain_of, opened};
 use crate::text;
 
 pub fn run(first: &Path, second: &Path, out: &mut dyn Write) -> io::Result<Status> {
     let blocks = opened(first, Outcomes::open_with_progress(first));
-    let others = opened(second, Outcomes::open_with_progress(second));
+    // One bar is enough: both are read side by side.
+    let others = opened(second, Outcomes::open(second));
     let (Some(blocks), Some(others)) = (blocks, others) else {
         return Ok(Status::Unread);
     };
     let mut found = Found {
         paths: [first, second],
-        is_refused: false,
+        faults: [Vec::new(), Vec::new()],
         difference: None,
     };
     // Read to both ends, since a refused block behind a difference counts more.
@@ -36,7 +37,7 @@ pub fn run(first: &Path, second: &Path, out: &mut dyn Write) -> io::Result<Statu
 /// What has been found so far.
 struct Found<'a> {
     paths: [&'a Path; 2],
-    is_refused: bool,
+    faults: [Vec<Fault>; 2],
     difference: Option<String>,
 }
 
@@ -55,9 +56,8 @@ impl Found<'_> {
             }
             (a, b) => {
                 let longer = usize::from(a.is_none());
-                for (outcome, path) in [a, b].iter().zip(self.paths) {
-                    let status = outcome.as_ref().map(|outcome| outcome.complain(path));
-                    self.is_refused |= status.is_some_and(|status| status != Status::Fine);
+                for (outcome, faults) in [a, b].iter().zip(&mut self.faults) {
+                    faults.extend(outcome.as_ref().and_then(Outcome::fault));
                 }
                 Some(format!("{} has more blocks", names[longer]))
             }
@@ -66,7 +66,9 @@ impl Found<'_> {
     }
 
     fn tell(self, out: &mut dyn Write) -> io::Result<Status> {
-        if self.is_refused {
+        let ([first, second], [of_first, of_second]) = (self.paths, self.faults);
+        let worst = complain_of(first, of_first).max(complain_of(second, of_second));
+        if worst != Status::Fine {
             return Ok(Status::Unread);
         }
         let (words, status) = match self.difference {

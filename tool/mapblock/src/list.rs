@@ -7,7 +7,7 @@ use std::path::Path;
 use crate::block::Block;
 use crate::elements::{Element, Elements, Metadata};
 use crate::outcomes::{Outcome, Outcomes};
-use crate::output::{Status, opened};
+use crate::output::{Status, complain_of, opened};
 use crate::text;
 
 pub fn run(path: &Path, is_full: bool, out: &mut dyn Write) -> io::Result<Status> {
@@ -16,12 +16,13 @@ pub fn run(path: &Path, is_full: bool, out: &mut dyn Write) -> io::Result<Status
     };
     let mut status = Status::Fine;
     for outcome in outcomes {
-        if let Outcome::Accepted(accepted) = outcome {
-            list(accepted.number, accepted.block, is_full, out)?;
-        } else {
+        if let Some(fault) = outcome.fault() {
             // What was listed stands before the complaint.
             out.flush()?;
-            status = status.max(outcome.complain(path));
+            status = status.max(complain_of(path, [fault]));
+        }
+        if let Outcome::Accepted(accepted) = outcome {
+            list(accepted.number, accepted.block, is_full, out)?;
         }
     }
     Ok(status)

@@ -6,7 +6,7 @@ use std::path::Path;
 
 use crate::block::Block;
 use crate::input::{Blocks, FileBlock};
-use crate::output::{Status, complain};
+use crate::output::{Fault, Status};
 use crate::pbf::Damage;
 use crate::place::{self, Place};
 use crate::words;
@@ -19,18 +19,12 @@ pub enum Outcome {
 }
 
 impl Outcome {
-    /// Says in one line what is wrong, and how bad that is.
-    pub fn complain(&self, path: &Path) -> Status {
+    /// What is wrong, if anything is.
+    pub fn fault(&self) -> Option<Fault> {
         match self {
-            Outcome::Accepted(_) => Status::Fine,
-            Outcome::Refused(refusal) => {
-                complain(path, refusal);
-                Status::Refused
-            }
-            Outcome::Damaged(damage) => {
-                complain(path, damage);
-                Status::Unread
-            }
+            Outcome::Accepted(_) => None,
+            Outcome::Refused(refusal) => Some((Status::Refused, refusal.to_string())),
+            Outcome::Damaged(damage) => Some((Status::Unread, damage.to_string())),
         }
     }
 }

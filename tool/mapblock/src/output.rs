@@ -32,6 +32,20 @@ pub fn complain(path: &Path, what: impl Display) {
     let _ = writeln!(io::stderr(), "mapblock: {}: {what}", path.display());
 }
 
+/// What is wrong with a part of a file, in one line, and how bad that is.
+pub type Fault = (Status, String);
+
+/// Complains of all faults of a file, and says how bad the worst is. While a
+/// bar is shown, faults are kept until it is gone.
+pub fn complain_of(path: &Path, faults: impl IntoIterator<Item = Fault>) -> Status {
+    faults
+        .into_iter()
+        .fold(Status::Fine, |worst, (status, what)| {
+            complain(path, what);
+            worst.max(status)
+        })
+}
+
 /// What could be opened; else says in one line why not.
 pub fn opened<T>(path: &Path, opened: Result<T, String>) -> Option<T> {
     opened.map_err(|why| complain(path, why)).ok()

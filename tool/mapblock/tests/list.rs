@@ -190,11 +190,12 @@ fn a_block_equals_itself_in_a_map_and_no_other_block() {
 #[test]
 fn a_refused_block_makes_status_2_of_a_comparison() {
     let folder = folder("compare-refused");
-    file(&folder, "a", &pbf(&[b"", b""]));
+    file(&folder, "a", &pbf(&[b"", b"", &[0x07]]));
     file(&folder, "b", &pbf(&[&len_field(2, &[]), &[0x07]]));
     let run = run(&folder, &["compare", "a", "b"]);
     assert_eq!((run.status, run.out.as_str()), (2, ""));
-    assert_eq!(run.err.lines().count(), 1, "{}", run.err);
+    let starts: Vec<&str> = run.err.lines().map(|line| &line[..20]).collect();
+    assert_eq!(starts, ["mapblock: a: block 2", "mapblock: b: block 1"]);
 }
 
 #[test]

@@ -11,7 +11,7 @@ use std::path::Path;
 use crate::elements::Elements;
 use crate::map::Map;
 use crate::outcomes::{Accepted, Outcome, Outcomes, Refusal};
-use crate::output::{Status, complain, opened};
+use crate::output::{Fault, Status, complain, complain_of, opened};
 use crate::pbf::Damage;
 use totals::Totals;
 
@@ -40,7 +40,8 @@ pub fn run(path: &Path, page: &Path, out: &mut dyn Write) -> io::Result<Status> 
     let Some(outcomes) = opened(path, Outcomes::open_with_progress(path)) else {
         return Ok(Status::Unread);
     };
-    let report = read(path, outcomes);
+    let (report, faults) = read(path, outcomes);
+    complain_of(path, faults);
     if let Err(how) = fs::write(page, page::html(&report)) {
         complain(page, format!("it can't be written: {how}"));
         return Ok(Status::Unread);
@@ -49,7 +50,7 @@ pub fn run(path: &Path, page: &Path, out: &mut dyn Write) -> io::Result<Status> 
     Ok(report.status())
 }
 
-fn read(path: &Path, outcomes: Outcomes) -> Report {
+fn read(path: &Path, outcomes: Outcomes) -> (Report, Vec<Fault>) {
     let name = path.file_name().unwrap_or_default().to_string_lossy();
     let mut report = Report {
         name: name.to_string(),
@@ -60,15 +61,16 @@ fn read(path: &Path, outcomes: Outcomes) -> Report {
         totals: Totals::default(),
         map: Map::default(),
     };
+    let mut faults = Vec::new();
     for outcome in outcomes {
-        outcome.complain(path);
+        faults.extend(outcome.fault());
         match outcome {
             Outcome::Accepted(accepted) => report.accept(accepted),
             Outcome::Refused(refusal) => report.refused.push(refusal),
             Outcome::Damaged(damage) => report.damaged.push(damage),
         }
     }
-    report
+    (report, faults)
 }
 
 impl Report {
