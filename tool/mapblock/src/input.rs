@@ -106,14 +106,14 @@ fn one_block(file: &mut BufReader<File>) -> Result<(u64, Vec<u8>), Damage> {
     match file.take(most).read_to_end(&mut bytes) {
         Ok(_) => Ok((0, bytes)),
         Err(how) => Err(Damage {
-            at: bytes.len() as u64,
-            what: format!("the file can't be read: {}", reason(&how)),
+            at: None,
+            what: format!("it can't be read: {}", reason(&how)),
         }),
     }
 }
 
 /// Why the system refuses a file, for people.
-pub fn reason(how: &io::Error) -> String {
+fn reason(how: &io::Error) -> String {
     match how.kind() {
         io::ErrorKind::NotFound => "there is no such file".to_string(),
         io::ErrorKind::PermissionDenied => "it may not be read: permission denied".to_string(),

@@ -63,7 +63,10 @@ impl fmt::Display for Refusal {
 
 impl fmt::Display for Damage {
     fn fmt(&self, f: &mut fmt::Formatter<'_>) -> fmt::Result {
-        write!(f, "the blob at byte {}: {}", self.at, self.what)
+        if let Some(at) = self.at {
+            write!(f, "the blob at byte {at}: ")?;
+        }
+        write!(f, "{}", self.what)
     }
 }
 
@@ -103,7 +106,7 @@ impl Outcomes {
         let format = (!self.is_pbf).then(|| other_format(block.bytes(0..3)));
         if let Some(format) = format.flatten() {
             return Outcome::Damaged(Damage {
-                at,
+                at: None,
                 what: format!("this is {format}, no PBF"),
             });
         }

@@ -15,8 +15,8 @@ const LONGEST_BLOB: u64 = 1 << 25;
 /// What makes a file, or one blob of it, unreadable.
 #[derive(Debug)]
 pub struct Damage {
-    /// Where in the file the blob begins.
-    pub at: u64,
+    /// Where in the file the blob begins; none where the file has no blobs.
+    pub at: Option<u64>,
     pub what: String,
 }
 
@@ -86,7 +86,7 @@ impl<R: Read> Blobs<R> {
             self.ended = matches!(content, Err(Unread::File(_)));
             let content = content.map(|block| (at, block));
             return Some(content.map_err(|unread| Damage {
-                at,
+                at: Some(at),
                 what: unread.what(),
             }));
         }

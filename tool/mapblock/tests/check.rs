@@ -200,7 +200,7 @@ fn other_formats_are_called_by_their_name() {
         file(&folder, "a", bytes);
         let run = run(&folder, &["check", "a"]);
         assert_eq!(run.status, 2);
-        assert!(run.err.ends_with(&format!("this is {name}, no PBF\n")));
+        assert_eq!(run.err, format!("mapblock: a: this is {name}, no PBF\n"));
     }
 }
 

@@ -21,37 +21,25 @@ pub struct Drawn<'a> {
     pub lines: Vec<Vec<Pixel>>,
 }
 
+/// A shape with its lines in degrees.
+type Placed<'a> = (&'a Shape, Vec<Vec<Position>>);
+
 impl<'a> Drawing<'a> {
     /// None where there is nothing to draw.
     pub fn of(map: &'a Map) -> Option<Drawing<'a>> {
-        let placed: Vec<_> = map
+        let placed: Vec<Placed> = map
             .shapes
             .iter()
             .map(|shape| (shape, map.lines(&shape.outline)))
             .collect();
         let projection = fit(map, &placed)?;
-        let project = |line: &Vec<_>| line.iter().map(|&at| projection.point(at)).collect();
         let mut shapes: Vec<Drawn> = placed
             .into_iter()
-            .map(|(shape, lines)| Drawn {
-                shape,
-                lines: lines
-                    .iter()
-                    .filter(|line| line.len() > 1)
-                    .map(project)
-                    .collect(),
-            })
-            .filter(|drawn| !drawn.lines.is_empty())
+            .filter_map(|placed| draw(placed, &projection))
             .collect();
         // Stable, so that the same map always gives the same picture.
         shapes.sort_by_key(|drawn| drawn.shape.class);
-        let mut points: Vec<(&Point, Pixel)> = map
-            .points
-            .iter()
-            .map(|point| (point, projection.point(point.position)))
-            .filter(|(_, at)| is_inside(*at, projection.height))
-            .collect();
-        points.sort_by_key(|(point, _)| point.mark);
+        let points = points(map, &projection);
         let labels = labels::place(&shapes, &points, projection.height);
         Some(Drawing {
             projection,
@@ -62,9 +50,31 @@ impl<'a> Drawing<'a> {
     }
 }
 
+/// None where no line is left of a shape.
+fn draw<'a>((shape, lines): Placed<'a>, projection: &Projection) -> Option<Drawn<'a>> {
+    let lines: Vec<Vec<Pixel>> = lines
+        .iter()
+        .filter(|line| line.len() > 1)
+        .map(|line| line.iter().map(|&at| projection.point(at)).collect())
+        .collect();
+    (!lines.is_empty()).then_some(Drawn { shape, lines })
+}
+
+/// The places with a name that are in the picture, the most important first.
+fn points<'a>(map: &'a Map, projection: &Projection) -> Vec<(&'a Point, Pixel)> {
+    let mut points: Vec<(&Point, Pixel)> = map
+        .points
+        .iter()
+        .map(|point| (point, projection.point(point.position)))
+        .filter(|(_, at)| is_inside(*at, projection.height))
+        .collect();
+    points.sort_by_key(|(point, _)| point.mark);
+    points
+}
+
 /// The picture goes as far as people do: a river may flow on past its edge,
 /// unless there is nothing else to draw.
-fn fit(map: &Map, placed: &[(&Shape, Vec<Vec<Position>>)]) -> Option<Projection> {
+fn fit(map: &Map, placed: &[Placed]) -> Option<Projection> {
     let on_lines = |waters: bool| {
         let shapes = placed
             .iter()
