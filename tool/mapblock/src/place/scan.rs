@@ -74,3 +74,21 @@ fn string(block: &mut Block, number: u32, table: Range<usize>) -> Place {
     let byte = table.start;
     Place::new(number, "the string table", table, byte)
 }
+
+#[cfg(test)]
+mod tests {
+    use super::find;
+    use crate::block::Block;
+    use crate::words::NOT_UTF8;
+
+    /// Asked without the library, which may be one that takes any string.
+    #[test]
+    fn the_first_string_that_is_not_utf8_is_found() {
+        let table = b"\x0A\x0A\x0A\x01a\x0A\x02b\xFF\x0A\x01\xFF";
+        let place = find(&mut Block::read(table.to_vec()), NOT_UTF8);
+        assert_eq!(
+            place.to_string(),
+            "string 1: bytes 7 to 8 of the block, certain at byte 8"
+        );
+    }
+}
