@@ -1,8 +1,6 @@
 //! The picture of a map as SVG: shapes and names in a group of their own, so
 //! that a page can move and enlarge it under the scale bar and the legend.
 
-use std::fmt::Write;
-
 use super::Map;
 use super::drawing::{Drawing, Drawn, Pixel};
 use super::labels::Label;
@@ -10,26 +8,7 @@ use super::projection::{Projection, WIDTH, distance, scale_bar};
 use super::style::Class;
 use crate::xml::escape;
 
-const STYLE: &str = "\
-.ground { fill: #f8f6f0 }
-.shape { fill: none; stroke-linejoin: round; stroke-linecap: round; vector-effect: non-scaling-stroke }
-.water { fill: #b9d6e8; fill-rule: evenodd; stroke: #5f97bd; stroke-width: 1 }
-.stream { stroke: #3d82b8; stroke-width: 1.6 }
-.fence { stroke: #3a3a3a; stroke-width: 1.4; stroke-dasharray: 1 3 }
-.road { stroke: #9a948a; stroke-width: 1.8 }
-.path { stroke: #b4532a; stroke-width: 1.3; stroke-dasharray: 5 3 }
-.point { fill: #333 }
-.label { font-family: sans-serif; text-anchor: middle; dominant-baseline: central; fill: #222; stroke: #f8f6f0; stroke-width: 2.5; paint-order: stroke }
-.town { font-size: 17px; font-weight: bold }
-.village { font-size: 14px; font-weight: bold }
-.hamlet { font-size: 12px }
-.peak { font-size: 11px; font-style: italic }
-.on-line { font-size: 11px; fill: #555 }
-.on-water { font-size: 11px; font-style: italic; fill: #24618f }
-.strip { fill: #fff }
-.bar { fill: none; stroke: #222; stroke-width: 2 }
-.words { font-family: sans-serif; font-size: 12px; fill: #222 }
-";
+const STYLE: &str = include_str!("picture.css");
 
 /// The strip under the map, for legend and scale bar.
 const STRIP: f64 = 44.0;
@@ -67,36 +46,31 @@ fn put_drawing(out: &mut String, drawing: &Drawing) {
     }
     for (point, (x, y)) in &drawing.points {
         let title = escape(&point.title);
-        put(
-            out,
-            format_args!(
-                "<circle class=\"point\" cx=\"{x:.1}\" cy=\"{y:.1}\" r=\"2.5\"><title>{title}</title></circle>\n"
-            ),
-        );
+        out.push_str(&format!(
+            "<circle class=\"point\" cx=\"{x:.1}\" cy=\"{y:.1}\" r=\"2.5\">\
+             <title>{title}</title></circle>\n"
+        ));
     }
     for label in &drawing.labels {
         put_label(out, label);
     }
     out.push_str("</g>\n");
     let Projection { height, .. } = drawing.projection;
-    put(
-        out,
-        format_args!(
-            "<rect class=\"strip\" y=\"{height:.1}\" width=\"100%\" height=\"{STRIP}\"/>\n"
-        ),
-    );
+    out.push_str(&format!(
+        "<rect class=\"strip\" y=\"{height:.1}\" width=\"100%\" height=\"{STRIP}\"/>\n"
+    ));
     put_legend(out, height + STRIP / 2.0);
     put_scale_bar(out, drawing.projection.metre(), height + STRIP / 2.0);
 }
 
 fn put_shape(out: &mut String, drawn: &Drawn) {
     let class = drawn.shape.class.id();
-    put(out, format_args!("<path class=\"shape {class}\" d=\""));
+    out.push_str(&format!("<path class=\"shape {class}\" d=\""));
     for line in &drawn.lines {
         put_line(out, line);
     }
     let title = escape(&drawn.shape.title);
-    put(out, format_args!("\"><title>{title}</title></path>\n"));
+    out.push_str(&format!("\"><title>{title}</title></path>\n"));
 }
 
 /// `M1 2 3 4`: to a tenth of a pixel, without points that fall together.
@@ -107,7 +81,7 @@ fn put_line(out: &mut String, line: &[Pixel]) {
         let point = (tenths(x), tenths(y));
         if last != Some(point) {
             let sign = if last.is_none() { "M" } else { " " };
-            put(out, format_args!("{sign}{} {}", point.0, point.1));
+            out.push_str(&format!("{sign}{} {}", point.0, point.1));
             last = Some(point);
         }
     }
@@ -119,14 +93,11 @@ fn put_label(out: &mut String, label: &Label) {
         id, angle, lift, ..
     } = label;
     let text = escape(label.text);
-    put(
-        out,
-        format_args!(
-            "<text class=\"label {id}\" y=\"{:.0}\" transform=\"translate({x:.1} {y:.1}) \
+    out.push_str(&format!(
+        "<text class=\"label {id}\" y=\"{:.0}\" transform=\"translate({x:.1} {y:.1}) \
              rotate({angle:.0})\">{text}</text>\n",
-            0.0 - lift
-        ),
-    );
+        0.0 - lift
+    ));
 }
 
 /// A sample of each class and what it stands for, side by side.
@@ -138,10 +109,10 @@ fn put_legend(out: &mut String, y: f64) {
             Class::Water => format!("M{x:.1} {:.1} h30 v10 h-30 z", y - 5.0),
             _ => format!("M{x:.1} {y:.1} h30"),
         };
-        put(
-            out,
-            format_args!("<path class=\"shape {}\" d=\"{sample}\"/>\n", class.id()),
-        );
+        out.push_str(&format!(
+            "<path class=\"shape {}\" d=\"{sample}\"/>\n",
+            class.id()
+        ));
         put_words(out, (x + 38.0, y + 4.0), class.legend());
     }
     out.push_str("</g>\n");
@@ -153,26 +124,17 @@ fn put_scale_bar(out: &mut String, metre: f64, y: f64) {
     let metres = scale_bar(metre, LONGEST_BAR);
     let right = WIDTH - 15.0;
     let left = right - metres * metre;
-    put(
-        out,
-        format_args!(
-            "<g id=\"scale\" data-metre=\"{metre:.6e}\" data-longest=\"{LONGEST_BAR}\">\n\
+    out.push_str(&format!(
+        "<g id=\"scale\" data-metre=\"{metre:.6e}\" data-longest=\"{LONGEST_BAR}\">\n\
          <path class=\"bar\" d=\"M{left:.1} {y:.1} v6 H{right:.1} v-6\"/>\n"
-        ),
-    );
+    ));
     put_words(out, (left, y - 4.0), &distance(metres));
     out.push_str("</g>\n");
 }
 
 fn put_words(out: &mut String, (x, y): Pixel, words: &str) {
     let words = escape(words);
-    put(
-        out,
-        format_args!("<text class=\"words\" x=\"{x:.1}\" y=\"{y:.1}\">{words}</text>\n"),
-    );
-}
-
-/// A `String` takes all that is written to it.
-fn put(out: &mut String, text: std::fmt::Arguments) {
-    let _ = out.write_fmt(text);
+    out.push_str(&format!(
+        "<text class=\"words\" x=\"{x:.1}\" y=\"{y:.1}\">{words}</text>\n"
+    ));
 }

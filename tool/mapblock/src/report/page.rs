@@ -165,7 +165,8 @@ fn accepted_row(row: &Row) -> String {
     } = row;
     let elements = totals.elements();
     format!(
-        "<tr><td>{number}</td><td>{at}</td><td>accepted</td><td>{bytes}</td><td>{elements}</td></tr>\n"
+        "<tr><td>{number}</td><td>{at}</td><td>accepted</td>\
+         <td>{bytes}</td><td>{elements}</td></tr>\n"
     )
 }
 
