@@ -1,9 +1,6 @@
 //! The numbers in plain words: what each means, and what whoever wrote the
 //! block should mend. The desk reads them to people who never saw a varint.
 
-/// A string that is not UTF-8, in libraries that test it.
-pub const NOT_UTF8: u32 = 15;
-
 /// The words of one number.
 pub struct Words {
     number: u32,
@@ -17,7 +14,7 @@ pub fn of(number: u32) -> &'static Words {
     found.unwrap_or(&UNKNOWN)
 }
 
-const TABLE: [Words; 15] = [
+const TABLE: [Words; 14] = [
     Words {
         number: proved::BLOCK_TOO_LONG,
         means: "the block is longer than 32 MiB, the most that a camera reads",
@@ -88,11 +85,6 @@ const TABLE: [Words; 15] = [
         means: "something lies outside the buffer that was lent",
         mend: "nothing in the block: the program that reads it lends too little",
     },
-    Words {
-        number: NOT_UTF8,
-        means: "a string is not UTF-8, so its text can't be shown",
-        mend: "write all strings in UTF-8, by RFC 3629",
-    },
 ];
 
 const UNKNOWN: Words = Words {
@@ -107,9 +99,9 @@ mod tests {
 
     #[test]
     fn every_number_has_words_of_its_own() {
-        let mut means: Vec<_> = (1..=16).map(|number| of(number).means).collect();
+        let mut means: Vec<_> = (1..=15).map(|number| of(number).means).collect();
         means.sort_unstable();
         means.dedup();
-        assert_eq!(means.len(), 16);
+        assert_eq!(means.len(), 15);
     }
 }

@@ -126,12 +126,3 @@ fn the_block_s_own_fields_and_its_strings_are_told() {
         "the block's own fields: bytes 0 to 8 of the block, certain at byte 6"
     );
 }
-
-/// A library that tests its strings refuses this one with 15, others accept.
-#[test]
-fn a_string_that_is_not_utf8_is_told_where_it_is_refused() {
-    let table = [len_field(1, b"good"), len_field(1, b"ba\xFF")].concat();
-    let told = told(&len_field(1, &table));
-    let place = "string 1: bytes 10 to 12 of the block, certain at byte 12";
-    assert!(told == "accepted" || told == place, "{told}");
-}

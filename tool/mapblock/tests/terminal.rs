@@ -31,7 +31,7 @@ fn the_manual_has_every_command_and_option() {
 
 #[test]
 fn the_manual_has_the_words_of_every_number_of_a_block() {
-    for number in (1..=15).filter(|number| ![13, 14].contains(number)) {
+    for number in 1..=12 {
         let means = words::of(number).means;
         let entry = format!(".TP\n.B {number}\n{means}\n");
         assert!(MANUAL.contains(&entry), "{number}");

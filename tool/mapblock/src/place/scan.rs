@@ -7,13 +7,10 @@ use super::Place;
 use super::asking::{certain_at, read_fields};
 use crate::block::{Block, Messages};
 use crate::text::counted;
-use crate::words::NOT_UTF8;
 
-/// Fields of a block and of a string table, by their numbers in
-/// osmformat.proto.
+/// Fields of a block by their numbers in osmformat.proto.
 const STRING_TABLE: usize = 1;
 const GROUP: usize = 2;
-const STRING: usize = 1;
 
 /// Where the scan gives this number.
 pub fn find(block: &mut Block, number: u32) -> Place {
@@ -44,51 +41,13 @@ fn own_fields(block: &mut Block, number: u32, whole: Range<usize>) -> Place {
     Place::new(number, &what, rest, byte)
 }
 
+/// The last string table, which is all that is left to refuse.
 fn string_table(block: &mut Block, number: u32, whole: &Range<usize>) -> Place {
     let mut tables = Messages::new(whole, STRING_TABLE);
     let mut table = 0..0;
     while let Some(found) = block.message(&mut tables) {
         table = found;
     }
-    match read_fields(block, &table) {
-        Err(number) => {
-            let byte = certain_at(number, &table, |front| read_fields(block, front));
-            Place::new(number, "the string table", table, byte)
-        }
-        Ok(()) => string(block, number, table),
-    }
-}
-
-/// The first string that is not UTF-8, which is all that is left to refuse.
-fn string(block: &mut Block, number: u32, table: Range<usize>) -> Place {
-    let mut strings = Messages::new(&table, STRING);
-    let mut index = 0;
-    while let Some(string) = block.message(&mut strings) {
-        let text = std::str::from_utf8(block.bytes(string.clone()));
-        if let (NOT_UTF8, Err(how)) = (number, text) {
-            let byte = string.start + how.valid_up_to();
-            return Place::new(number, &format!("string {index}"), string, byte);
-        }
-        index += 1;
-    }
-    let byte = table.start;
+    let byte = certain_at(number, &table, |front| read_fields(block, front));
     Place::new(number, "the string table", table, byte)
-}
-
-#[cfg(test)]
-mod tests {
-    use super::find;
-    use crate::block::Block;
-    use crate::words::NOT_UTF8;
-
-    /// Asked without the library, which may be one that takes any string.
-    #[test]
-    fn the_first_string_that_is_not_utf8_is_found() {
-        let table = b"\x0A\x0A\x0A\x01a\x0A\x02b\xFF\x0A\x01\xFF";
-        let place = find(&mut Block::read(table.to_vec()), NOT_UTF8);
-        assert_eq!(
-            place.to_string(),
-            "string 1: bytes 7 to 8 of the block, certain at byte 8"
-        );
-    }
 }
