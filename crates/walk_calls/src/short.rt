@@ -1,5 +1,5 @@
 // A single call's short way: the next plain dense node by the slot's own numbers, with nothing between them and the bytes. Most calls that draw a
-// map are such. Each function here stands in one place and answers a number, so that all of it stays in registers (docs/PROVING.md,
+// map are such. Each function here is called from one place and answers a number, so that all of it stays in registers (docs/DECISIONS.md,
 // Through C).
 ghost use mathlib.Core.Path.{_≡_};
 ghost use mathlib.Core.Bool.{true};
