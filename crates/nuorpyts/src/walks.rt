@@ -12,8 +12,8 @@ ghost use Rattle.calls.specs.Calls.{oneRoom, roomFor, callCode, itemsOf, countA
 ghost use Rattle.walk_slots.specs.Slot.{walkWords, walkAt};
 ghost use Rattle.walk_calls.specs.Steps.{ElementsIn, walkIn, walkCall};
 ghost use Rattle.nuorpyts.specs.Chains.{Accepted-in, WholeIn};
+use short_calls::short::short_step;
 use walk::state::BlockElementsIter;
-use walk_calls::short::short_step;
 use walk_calls::steps::next_step;
 use walk_calls::steps::next_steps;
 use walk_calls::steps::start_walk;

@@ -2,5 +2,4 @@
 pub mod Steps
 pub mod Fills
 pub mod Messages
-pub mod Short
 pub mod Chain

@@ -2,5 +2,4 @@
 // answer's slice has room for, and leaves in the slot the state behind them.
 mod messages;
 mod nodes;
-pub mod short;
 pub mod steps;

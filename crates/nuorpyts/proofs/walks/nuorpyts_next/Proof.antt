@@ -1,7 +1,7 @@
 -- `nuorpyts_next` answers what the short way does where it serves, and else what `next_step` does; the claim about two blocks holds of every
 -- buffer and record.
 use borrow.Author.Needs.{needs}
-use Rattle.walk_calls.proofs.laws.Short.{step-served, step-unserved}
+use Rattle.short_calls.proofs.laws.Short.{step-served, step-unserved}
 use Rattle.nuorpyts.proofs.laws.Chains.{whole-in}
 use Rattle.nuorpyts.proofs.walks.nuorpyts_next.Statement.{statement}
 use Rattle.nuorpyts.proofs.walks.nuorpyts_next.Tie as tie

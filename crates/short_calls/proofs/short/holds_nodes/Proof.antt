@@ -3,9 +3,9 @@ use borrow.Author.Needs.{needs}
 use mathlib.Core.Path.{sym}
 use mathlib.Core.Bool.{true≢false}
 use borrow.Author.Tests.{eqb-true}
-use Rattle.walk_calls.proofs.laws.Short.{nodes-there}
-use Rattle.walk_calls.proofs.short.holds_nodes.Statement.{statement}
-use Rattle.walk_calls.proofs.short.holds_nodes.Tie as tie
+use Rattle.short_calls.proofs.laws.Short.{nodes-there}
+use Rattle.short_calls.proofs.short.holds_nodes.Statement.{statement}
+use Rattle.short_calls.proofs.short.holds_nodes.Tie as tie
 
 pub holds-nodes-spec : {M : Type 1} → statement M
 holds-nodes-spec =

@@ -1,7 +1,7 @@
 -- `word_at` is the word of the column whose numbers it reads.
 use borrow.Author.Needs.{needs}
-use Rattle.walk_calls.proofs.short.word_at.Statement.{statement}
-use Rattle.walk_calls.proofs.short.word_at.Tie as tie
+use Rattle.short_calls.proofs.short.word_at.Statement.{statement}
+use Rattle.short_calls.proofs.short.word_at.Tie as tie
 
 pub word-at-spec : {M : Type 1} → statement M
 word-at-spec =

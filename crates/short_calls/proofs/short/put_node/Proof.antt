@@ -3,8 +3,8 @@ use borrow.Author.Needs.{needs}
 use mathlib.Core.Path.{_∙_}
 use mathlib.Core.List.{[], _∷_}
 use Rattle.answers.specs.Words.{filled}
-use Rattle.walk_calls.proofs.short.put_node.Statement.{statement}
-use Rattle.walk_calls.proofs.short.put_node.Tie as tie
+use Rattle.short_calls.proofs.short.put_node.Statement.{statement}
+use Rattle.short_calls.proofs.short.put_node.Tie as tie
 
 pub put-node-spec : {M : Type 1} → statement M
 put-node-spec =

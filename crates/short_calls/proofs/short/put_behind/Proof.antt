@@ -5,8 +5,8 @@ use native.Mathlib.Omega.{arith}
 use mathlib.Core.Path.{_∙_}
 use mathlib.Core.List.{[], _∷_}
 use Rattle.answers.specs.Words.{filled}
-use Rattle.walk_calls.proofs.short.put_behind.Statement.{statement}
-use Rattle.walk_calls.proofs.short.put_behind.Tie as tie
+use Rattle.short_calls.proofs.short.put_behind.Statement.{statement}
+use Rattle.short_calls.proofs.short.put_behind.Tie as tie
 
 pub put-behind-spec : {M : Type 1} → statement M
 put-behind-spec =

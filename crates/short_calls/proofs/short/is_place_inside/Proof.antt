@@ -12,8 +12,8 @@ use Rattle.protobuf.proofs.laws.Read.{says}
 use Rattle.fields.proofs.laws.Part.{confirmed}
 use Rattle.columns.proofs.laws.Inside.{also-true}
 use Rattle.answers.specs.Record.{recordOf}
-use Rattle.walk_calls.proofs.short.is_place_inside.Statement.{statement}
-use Rattle.walk_calls.proofs.short.is_place_inside.Tie as tie
+use Rattle.short_calls.proofs.short.is_place_inside.Statement.{statement}
+use Rattle.short_calls.proofs.short.is_place_inside.Tie as tie
 
 pub is-place-inside-spec : {M : Type 1} → statement M
 is-place-inside-spec =

@@ -28,11 +28,11 @@ use Rattle.calls.proofs.laws.Calls.{puts-item, one-filled, call-asks, served, n
 use Rattle.walk_slots.specs.Held.{NodesHeld}
 use Rattle.walk_slots.specs.Slot.{walkWords, nodesAt, liveAt, walkAt}
 use Rattle.walk_slots.proofs.laws.Back.{nodes-put}
 use Rattle.walk_calls.specs.Steps.{foundBy, putWords, ElementsIn, walkOver, walkIn, walkCall}
 use Rattle.walk_calls.specs.Fills.{nodePut, atColumns}
-use Rattle.walk_calls.specs.Short.{PlaceInside}
+use Rattle.short_calls.specs.Short.{PlaceInside}
 use Rattle.walk_calls.proofs.laws.Steps.{put-small, elements-in, called-over}
 use Rattle.walk_calls.proofs.laws.Fills.{node-onward}
 
 -- a slot of phase 2 without the flag
 pub nodes-there : (slot : List ℕ) {phase full : ℕ} → phase ≡ numberAt 8 slot 0 → phase ≡ 2 → full ≡ numberAt 8 slot 8 → full ≡ 0 → walk.DenseNodes (nodesAt slot) ≡ walkAt slot

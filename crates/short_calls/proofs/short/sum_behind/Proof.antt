@@ -9,8 +9,8 @@ use Rattle.numbers.specs.Signed.{twos, wrappingAdd}
 use Rattle.numbers.proofs.laws.Machine.{returned}
 use Rattle.answers.specs.Words.{signedWord}
 use Rattle.answers.proofs.laws.Signed.{as-word}
-use Rattle.walk_calls.proofs.short.sum_behind.Statement.{statement}
-use Rattle.walk_calls.proofs.short.sum_behind.Tie as tie
+use Rattle.short_calls.proofs.short.sum_behind.Statement.{statement}
+use Rattle.short_calls.proofs.short.sum_behind.Tie as tie
 
 pub sum-behind-spec : {M : Type 1} → statement M
 sum-behind-spec =

@@ -13,9 +13,9 @@ use Rattle.kinds.proofs.laws.Dense.{byte-within}
 use Rattle.kinds.proofs.laws.Short.{Word}
 use Rattle.answers.specs.Words.{filled}
 use Rattle.walk_slots.specs.Slot.{nodesAt}
-use Rattle.walk_calls.proofs.laws.Short.{short-call}
-use Rattle.walk_calls.proofs.short.short_step.Statement.{statement}
-use Rattle.walk_calls.proofs.short.short_step.Tie as tie
+use Rattle.short_calls.proofs.laws.Short.{short-call}
+use Rattle.short_calls.proofs.short.short_step.Statement.{statement}
+use Rattle.short_calls.proofs.short.short_step.Tie as tie
 
 -- the words of the row, and that there are no pairs
 words : (c : tie.Else7) → let a = c .before .before .before .before .before .before .before .before .before .before .before .before .before .before .before .before .before .before .before .before .before .before .before .before .before .before .args in

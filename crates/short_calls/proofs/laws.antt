@@ -1,0 +1,2 @@
+-- One file of laws for each subject.
+pub mod Short

@@ -1,0 +1,2 @@
+-- What the short way of a call tests.
+pub mod Short
