@@ -3,9 +3,7 @@
 
 mod common;
 
-use std::process::Stdio;
-
-use common::{blob, file, folder, mapblock, pbf, ran, raw, run, zlib};
+use common::{blob, file, folder, pbf, raw, run, run_unread, zlib};
 use generate::encode::{len_field, varint_field};
 use mapblock::words;
 
@@ -229,17 +227,9 @@ fn json_has_the_same_for_scripts() {
 fn a_closed_pipe_ends_the_run_without_a_word() {
     let folder = folder("pipe");
     file(&folder, "a.bin", b"");
-    let names = vec!["a.bin"; 10_000];
-    let mut child = mapblock()
-        .current_dir(&folder)
-        .arg("check")
-        .args(names)
-        .stdout(Stdio::piped())
-        .stderr(Stdio::piped())
-        .spawn()
-        .expect("the tool starts");
-    drop(child.stdout.take());
-    let run = ran(child.wait_with_output().expect("the tool ends"));
+    let mut arguments = vec!["a.bin"; 10_000];
+    arguments[0] = "check";
+    let run = run_unread(&folder, &arguments);
     assert_eq!((run.status, run.err.as_str()), (0, ""));
 }
 

@@ -3,9 +3,8 @@
 mod common;
 
 use std::fs;
-use std::process::Stdio;
 
-use common::{blob, file, folder, mapblock, pbf, ran, raw, real_map, run};
+use common::{blob, file, folder, pbf, raw, real_map, run, run_unread};
 use generate::encode::{len_field, varint_field};
 use generate::fixtures;
 
@@ -73,15 +72,7 @@ fn a_listing_may_be_cut_by_a_pipe() {
     let folder = folder("list-pipe");
     let block = fixture("several groups of every kind");
     file(&folder, "a.osm.pbf", &pbf(&vec![&block[..]; 2000]));
-    let mut child = mapblock()
-        .current_dir(&folder)
-        .args(["list", "a.osm.pbf"])
-        .stdout(Stdio::piped())
-        .stderr(Stdio::piped())
-        .spawn()
-        .expect("the tool starts");
-    drop(child.stdout.take());
-    let run = ran(child.wait_with_output().expect("the tool ends"));
+    let run = run_unread(&folder, &["list", "a.osm.pbf"]);
     assert_eq!((run.status, run.err.as_str()), (0, ""));
 }
 

@@ -1,11 +1,12 @@
 -- Laws of a column that has ended: its reader stands at its end, inside the bytes, and has nothing before it, which is also the end of its sums.
-use Prim.Native.Nat.{ℕ, _≤_}
+use Prim.Native.Nat.{ℕ, _≤_, _<_}
 use native.Mathlib.Omega.{arith}
 use mathlib.Core.Path.{_≡_, refl, sym, ap, _∙_}
 use mathlib.Core.List.{List}
 use mathlib.Core.Bool.{Bool, true, false}
-use lib.Dec.{leb}
+use lib.Dec.{leb, eqb}
 use lib.ListN.{length, take}
+use borrow.Author.Tests.{le-leb, lt-leb}
 use Rattle.numbers.specs.Choose.{choose}
 use Rattle.numbers.specs.Signed.{zigzag}
 use Rattle.protobuf.specs.declared.refusal.Refusal.the-variants.{Outside}
@@ -23,6 +24,13 @@ use Rattle.columns.proofs.laws.InStep.{stepped}
 use Rattle.columns.proofs.laws.Zip.{Tells, typed, summed}
 
 module _ (s : List ℕ) (c : state.Column) where
+  -- the test, by where the column's end is
+  pub past-end : length s < c .end → false ≡ also (leb (c .end) (length s)) (eqb (c .at) (c .end))
+  past-end h = ap (λ (b : Bool). also b (eqb (c .at) (c .end))) (sym (lt-leb (c .end) (length s) h))
+
+  pub within-end : c .end ≤ length s → eqb (c .at) (c .end) ≡ also (leb (c .end) (length s)) (eqb (c .at) (c .end))
+  within-end h = ap (λ (b : Bool). also b (eqb (c .at) (c .end))) (sym (le-leb (c .end) (length s) h))
+
   pub at-end : c .at ≡ c .end → c .end ≤ length s → ahead s c ≡ end ended
   at-end e k = stepped s c refl (ap (stepBy (c .end)) (step-end s (c .at) (c .end) (omega (arith, e)) k e))
 

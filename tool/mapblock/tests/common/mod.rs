@@ -6,7 +6,7 @@ pub mod reserve;
 use std::fs;
 use std::io::Write;
 use std::path::{Path, PathBuf};
-use std::process::{Command, Output};
+use std::process::{Command, Output, Stdio};
 
 use flate2::Compression;
 use flate2::write::ZlibEncoder;
@@ -46,6 +46,19 @@ pub fn run(folder: &Path, arguments: &[&str]) -> Run {
         .args(arguments)
         .output()
         .expect("the tool runs"))
+}
+
+/// The same where whoever reads the output goes away before it comes.
+pub fn run_unread(folder: &Path, arguments: &[&str]) -> Run {
+    let mut child = mapblock()
+        .current_dir(folder)
+        .args(arguments)
+        .stdout(Stdio::piped())
+        .stderr(Stdio::piped())
+        .spawn()
+        .expect("the tool starts");
+    drop(child.stdout.take());
+    ran(child.wait_with_output().expect("the tool ends"))
 }
 
 pub fn ran(output: Output) -> Run {

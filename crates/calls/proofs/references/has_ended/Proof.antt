@@ -14,4 +14,4 @@ has-ended-spec =
     (λ c. search needs)
     (λ c κs. search needs)
     (λ c z. ap (refsFrom _) (c .enum-told .given .1))
-    (λ c z. ap (refsFrom _) (c .before .before .state .given .1) ∙ sums-ended _ _ (c .is-at-end .ensures z)))
+    (λ c z. ap (refsFrom _) (c .before .before .state .given .1) ∙ sums-ended _ _ (c .is-at-end .ensures .1 z)))

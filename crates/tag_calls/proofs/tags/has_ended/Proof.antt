@@ -33,5 +33,5 @@ has-ended-spec =
     (λ c z. ap (tagsFrom _ _) (c .enum-told .given .1))
     (λ c z.
     let w = c .before .before .before .before in
-    ap (tagsFrom _ _) (w .state .given .1) ∙ columns-ended _ _ (stands (w .before .before)) _ (c .before .before .is-at-end .ensures (not-false _ (c .before .if2 .left))) (c .is-at-end2 .ensures z))
-    (λ c z. let w = c .before .before .before .before in ap (tagsFrom _ _) (w .state2 .given .1) ∙ pairs-ended _ _ (stands (w .before .before)) _ (c .is-at-end3 .ensures z)))
+    ap (tagsFrom _ _) (w .state .given .1) ∙ columns-ended _ _ (stands (w .before .before)) _ (c .before .before .is-at-end .ensures .1 (not-false _ (c .before .if2 .left))) (c .is-at-end2 .ensures .1 z))
+    (λ c z. let w = c .before .before .before .before in ap (tagsFrom _ _) (w .state2 .given .1) ∙ pairs-ended _ _ (stands (w .before .before)) _ (c .is-at-end3 .ensures .1 z)))
