@@ -17,7 +17,7 @@ const ENDED: u64 = 0;
 const AT: u64 = 1;
 
 // What a slice is as the state of an iteration over a group's messages.
-#[derive(Drop)]
+#[derive(Clone, Copy)]
 pub enum MessagesIn {
     // Too short for one.
     Short,

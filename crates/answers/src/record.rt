@@ -8,7 +8,7 @@ use numbers::signed::{bits_i64, int32, int64, is_int32};
 use wire::record::WireBlock;
 
 // What a slice is as a record.
-#[derive(Drop)]
+#[derive(Clone, Copy)]
 pub enum RecordIn {
     Record(WireBlock),
     Outside,

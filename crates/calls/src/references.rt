@@ -21,21 +21,21 @@ use protobuf::column::{Column, wide_value};
 use protobuf::refusal::number;
 
 // A reference that was put, with the state behind it; or the code of the end, with the state before it.
-#[derive(Drop)]
+#[derive(Clone, Copy)]
 struct RefPut {
     code: u32,
     next: WayRefIter,
 }
 
 // How many there are behind a run, and the state behind them.
-#[derive(Drop)]
+#[derive(Clone, Copy)]
 struct RefsRun {
     count: usize,
     next: WayRefIter,
 }
 
 // How many were put, with the state behind them; where none was, the code and the ended state.
-#[derive(Drop)]
+#[derive(Clone, Copy)]
 struct RefsFilled {
     code: u32,
     count: usize,

@@ -7,7 +7,7 @@ ghost use Rattle.calls.specs.Calls.{one_room, room_for};
 use answers::words::put_numbers;
 
 // What a call answers: its code, and how many items it has handed out.
-#[derive(Drop)]
+#[derive(Clone, Copy)]
 pub struct Counted {
     pub code: u32,
     pub count: usize,

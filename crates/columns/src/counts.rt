@@ -8,7 +8,7 @@ ghost use Rattle.columns.specs.Counts.{counted};
 use protobuf::column::{Column, Step, next_value};
 use protobuf::refusal::Refusal;
 
-#[derive(Drop)]
+#[derive(Clone, Copy)]
 pub enum Count {
     Values(usize),
     Refused(Refusal),

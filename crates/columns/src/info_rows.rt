@@ -12,7 +12,7 @@ use protobuf::column::{Column, Step, next_value};
 use protobuf::refusal::Refusal;
 
 // The six columns of a DenseInfo; `user` is user_sid.
-#[derive(Drop)]
+#[derive(Clone, Copy)]
 pub struct InfoColumns {
     pub version: Column,
     pub timestamp: Sum64,
@@ -22,7 +22,7 @@ pub struct InfoColumns {
     pub visible: Column,
 }
 
-#[derive(Drop)]
+#[derive(Clone, Copy)]
 pub enum InfoStep {
     // A node's version and visibility; its other values are the sums of the next state.
     Row {

@@ -10,7 +10,7 @@ use protobuf::column::{Column, Step, next_value};
 use protobuf::refusal::Refusal;
 
 // What stands next among one node's pairs: a pair with the column behind it, or the last of them, with the next node's column.
-#[derive(Drop)]
+#[derive(Clone, Copy)]
 pub enum DenseTag {
     Pair { key: u64, value: u64, next: Column },
     Done(Column),
@@ -18,7 +18,7 @@ pub enum DenseTag {
 }
 
 // The column behind one node's pairs.
-#[derive(Drop)]
+#[derive(Clone, Copy)]
 pub enum Behind {
     Column(Column),
     Refused(Refusal),

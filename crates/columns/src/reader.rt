@@ -8,7 +8,7 @@ use fields::part::Part;
 use protobuf::column::{Column, Step, next_value};
 
 // What a step tells, with the value where it tells one (else 0) and the state behind it (else one that has ended in every buffer).
-#[derive(Drop)]
+#[derive(Clone, Copy)]
 pub struct ColumnStep {
     pub told: Told,
     pub value: u64,

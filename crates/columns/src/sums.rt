@@ -11,27 +11,27 @@ use numbers::signed::{wrapping_add_i32, wrapping_add_i64, zigzag_i32, zigzag_i64
 use protobuf::column::Column;
 
 // Where a reader of a sint64 column stands, and the sum up to there.
-#[derive(Drop)]
+#[derive(Clone, Copy)]
 pub struct Sum64 {
     pub column: Column,
     pub sum: i64,
 }
 
 // The value that is told is the next state's sum; where none is told, the next state is of no use.
-#[derive(Drop)]
+#[derive(Clone, Copy)]
 pub struct Sum64Step {
     pub told: Told,
     pub next: Sum64,
 }
 
 // The same of a sint32 column.
-#[derive(Drop)]
+#[derive(Clone, Copy)]
 pub struct Sum32 {
     pub column: Column,
     pub sum: i32,
 }
 
-#[derive(Drop)]
+#[derive(Clone, Copy)]
 pub struct Sum32Step {
     pub told: Told,
     pub next: Sum32,

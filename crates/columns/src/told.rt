@@ -4,7 +4,7 @@ ghost use Rattle.columns.specs.InStep.{in_step};
 
 use protobuf::refusal::Refusal;
 
-#[derive(Drop)]
+#[derive(Clone, Copy)]
 pub enum Told {
     // There is a next value; it stands beside this.
     Value,

@@ -11,13 +11,13 @@ use numbers::signed::int32;
 use protobuf::column::Column;
 
 // Keys and vals of a node, a way or a relation.
-#[derive(Drop)]
+#[derive(Clone, Copy)]
 pub struct TagColumns {
     pub keys: Column,
     pub vals: Column,
 }
 
-#[derive(Drop)]
+#[derive(Clone, Copy)]
 pub struct TagStep {
     pub told: Told,
     pub key: u32,
@@ -26,7 +26,7 @@ pub struct TagStep {
 }
 
 // Roles, memids and types of a relation.
-#[derive(Drop)]
+#[derive(Clone, Copy)]
 pub struct MemberColumns {
     pub roles: Column,
     pub memids: Sum64,
@@ -34,7 +34,7 @@ pub struct MemberColumns {
 }
 
 // The role and the type; the member's id is the sum of the next state's memids.
-#[derive(Drop)]
+#[derive(Clone, Copy)]
 pub struct MemberStep {
     pub told: Told,
     pub role: i32,
@@ -43,7 +43,7 @@ pub struct MemberStep {
 }
 
 // Ids, lats and lons of dense nodes.
-#[derive(Drop)]
+#[derive(Clone, Copy)]
 pub struct RowColumns {
     pub ids: Sum64,
     pub lats: Sum64,
@@ -51,7 +51,7 @@ pub struct RowColumns {
 }
 
 // The node's id and raw position are the next state's sums.
-#[derive(Drop)]
+#[derive(Clone, Copy)]
 pub struct RowStep {
     pub told: Told,
     pub next: RowColumns,

@@ -5,7 +5,7 @@ use views::relation::WireRelation;
 use views::way::WireWay;
 
 // The metadata of a dense node, in step with the nodes; `user` is user_sid.
-#[derive(Drop)]
+#[derive(Clone, Copy)]
 pub struct DenseNodeInfo {
     pub version: i32,
     pub timestamp: i64,
@@ -15,7 +15,7 @@ pub struct DenseNodeInfo {
     pub visible: bool,
 }
 
-#[derive(Drop)]
+#[derive(Clone, Copy)]
 pub enum NodeInfo {
     // A plain walk reads no metadata.
     Unread,
@@ -25,7 +25,7 @@ pub enum NodeInfo {
 }
 
 // A dense node: its running sums, and a reader of keys_vals that stands before its pairs.
-#[derive(Drop)]
+#[derive(Clone, Copy)]
 pub struct DenseNode {
     pub id: i64,
     pub lat: i64,
@@ -35,7 +35,7 @@ pub struct DenseNode {
 }
 
 // The others are their messages as viewed, with the Info's part in a full walk and none in a plain one.
-#[derive(Drop)]
+#[derive(Clone, Copy)]
 pub enum Element {
     DenseNode(DenseNode),
     Node(WireNode),

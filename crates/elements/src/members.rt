@@ -15,7 +15,7 @@ use lookup::by_number::{Got, get, is_inside};
 use protobuf::refusal::Refusal;
 use wire::record::WireBlock;
 
-#[derive(Drop)]
+#[derive(Clone, Copy)]
 pub enum MemberId {
     Node(i64),
     Way(i64),
@@ -23,19 +23,19 @@ pub enum MemberId {
     Unknown { kind: i32, id: i64 },
 }
 
-#[derive(Drop)]
+#[derive(Clone, Copy)]
 pub struct RelMember {
     pub role: i32,
     pub id: MemberId,
 }
 
-#[derive(Drop)]
+#[derive(Clone, Copy)]
 pub enum RelMemberIter {
     Ended,
     Members(MemberColumns),
 }
 
-#[derive(Drop)]
+#[derive(Clone, Copy)]
 pub enum RelMemberStep {
     Member {
         member: RelMember,

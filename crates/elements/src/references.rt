@@ -8,13 +8,13 @@ use columns::sums::{Sum64, next_sum64, start_sum64};
 use columns::told::Told;
 use protobuf::refusal::Refusal;
 
-#[derive(Drop)]
+#[derive(Clone, Copy)]
 pub enum WayRefIter {
     Ended,
     Refs(Sum64),
 }
 
-#[derive(Drop)]
+#[derive(Clone, Copy)]
 pub enum WayRefStep {
     Ref { id: i64, next: WayRefIter },
     Ended { next: WayRefIter },

@@ -18,7 +18,7 @@ use protobuf::column::Column;
 use protobuf::refusal::Refusal;
 use wire::record::WireBlock;
 
-#[derive(Drop)]
+#[derive(Clone, Copy)]
 pub enum TagIter {
     Ended,
     Columns(TagColumns),
@@ -26,13 +26,13 @@ pub enum TagIter {
 }
 
 // A key and a value by their numbers.
-#[derive(Drop)]
+#[derive(Clone, Copy)]
 pub struct RawTag {
     pub key: u64,
     pub value: u64,
 }
 
-#[derive(Drop)]
+#[derive(Clone, Copy)]
 pub enum RawTagStep {
     Tag { tag: RawTag, next: TagIter },
     Ended { next: TagIter },
@@ -40,14 +40,14 @@ pub enum RawTagStep {
 }
 
 // The same with the parts that their texts stand in.
-#[derive(Drop)]
+#[derive(Clone, Copy)]
 pub struct Tag {
     pub raw: RawTag,
     pub key: Part,
     pub value: Part,
 }
 
-#[derive(Drop)]
+#[derive(Clone, Copy)]
 pub enum TagIterStep {
     Tag { tag: Tag, next: TagIter },
     Ended { next: TagIter },

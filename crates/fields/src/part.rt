@@ -3,7 +3,7 @@
 ghost use Rattle.std.specs.Prelude.{◌≡◌, ◌+◌, leb};
 ghost use Rattle.fields.specs.Part.{bytes_of, stands_at};
 
-#[derive(Drop)]
+#[derive(Clone, Copy)]
 pub struct Part {
     pub present: bool,
     pub start: usize,

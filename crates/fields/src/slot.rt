@@ -8,14 +8,14 @@ use crate::part::Part;
 use protobuf::refusal::Refusal;
 
 // The number that was read last, and the part that stands for the field.
-#[derive(Drop)]
+#[derive(Clone, Copy)]
 pub struct Slot {
     pub value: u64,
     pub part: Part,
 }
 
 // What a view makes of a field, and the place of its slot.
-#[derive(Drop)]
+#[derive(Clone, Copy)]
 pub enum Rule {
     Scalar(usize),
     Column(usize),
@@ -24,7 +24,7 @@ pub enum Rule {
     Pass,
 }
 
-#[derive(Drop)]
+#[derive(Clone, Copy)]
 pub enum Put {
     Kept(Slot),
     Refused(Refusal),

@@ -2,7 +2,7 @@
 ghost use Rattle.std.specs.Prelude.{◌≡◌};
 ghost use Rattle.groups.specs.Classify.{block_type};
 
-#[derive(Drop)]
+#[derive(Clone, Copy)]
 pub enum BlockType {
     Empty,
     Nodes,

@@ -13,7 +13,7 @@ use fields::schema::primitive_group::DENSE;
 use message::field::{Field, next_field};
 use protobuf::refusal::Refusal;
 
-#[derive(Drop)]
+#[derive(Clone, Copy)]
 pub enum DenseFound {
     // The dense message's part, present or not.
     Found(Part),
@@ -21,7 +21,7 @@ pub enum DenseFound {
 }
 
 // Where an iteration over a group's messages of `field` stands: the group's range, and the place in it.
-#[derive(Drop)]
+#[derive(Clone, Copy)]
 pub struct MessagePlace {
     pub start: usize,
     pub len: usize,
@@ -29,14 +29,14 @@ pub struct MessagePlace {
     pub field: u32,
 }
 
-#[derive(Drop)]
+#[derive(Clone, Copy)]
 pub enum WireMessageIter {
     Ended,
     At(MessagePlace),
 }
 
 // Every answer hands back a state: behind ended and behind a refusal it is the ended one.
-#[derive(Drop)]
+#[derive(Clone, Copy)]
 pub enum MessageStep {
     Message {
         part: Part,

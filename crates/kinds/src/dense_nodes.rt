@@ -23,7 +23,7 @@ use protobuf::column::{Column, short_value};
 use protobuf::refusal::{Refusal, number};
 
 // The sums of the next columns are the node; its pairs stand where keys_vals of these columns does.
-#[derive(Drop)]
+#[derive(Clone, Copy)]
 pub enum DenseStep {
     Node(DenseColumns),
     Ended,
@@ -31,14 +31,14 @@ pub enum DenseStep {
 }
 
 // Whether there is a next node, which is so where `found` is not 0, and the columns behind it. A number, so that what a loop carries has no gaps.
-#[derive(Drop)]
+#[derive(Clone, Copy)]
 pub struct NextNode {
     pub found: u64,
     pub columns: DenseColumns,
 }
 
 // The same with metadata, and the columns of DenseInfo behind it.
-#[derive(Drop)]
+#[derive(Clone, Copy)]
 pub enum FullDenseStep {
     Node {
         info: NodeInfo,
@@ -50,7 +50,7 @@ pub enum FullDenseStep {
 }
 
 // The metadata of the next node, whether it has any or not.
-#[derive(Drop)]
+#[derive(Clone, Copy)]
 enum InfoRow {
     Read { info: NodeInfo, next: InfoColumns },
     Refused(Refusal),

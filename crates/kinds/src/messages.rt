@@ -14,13 +14,13 @@ use views::relation::{RelationParse, WireRelation};
 use views::way::{WayParse, WireWay};
 
 // A message as an element.
-#[derive(Drop)]
+#[derive(Clone, Copy)]
 enum Viewed {
     Element(Element),
     Refused(Refusal),
 }
 
-#[derive(Drop)]
+#[derive(Clone, Copy)]
 pub enum LooseStep {
     Found {
         message: Part,

@@ -3,7 +3,7 @@ use columns::zip::RowColumns;
 use protobuf::column::Column;
 
 // A group, by its number and the range that the table names for it.
-#[derive(Drop)]
+#[derive(Clone, Copy)]
 pub struct GroupRangeAt {
     pub group: usize,
     pub start: usize,
@@ -12,13 +12,13 @@ pub struct GroupRangeAt {
 
 // The columns of dense nodes, before the next one: the three that are summed, and keys_vals at its pairs. What changes from node to node is
 // apart from what does not, so that a step moves no more than it must.
-#[derive(Drop)]
+#[derive(Clone, Copy)]
 pub struct DenseColumns {
     pub rows: RowColumns,
     pub keyvals: Column,
 }
 
-#[derive(Drop)]
+#[derive(Clone, Copy)]
 pub enum Loose {
     Nodes,
     Ways,
@@ -26,7 +26,7 @@ pub enum Loose {
 }
 
 // Among a group's messages of one kind, at a place in the group.
-#[derive(Drop)]
+#[derive(Clone, Copy)]
 pub struct Messages {
     pub full: bool,
     pub of: GroupRangeAt,

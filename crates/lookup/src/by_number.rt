@@ -8,14 +8,14 @@ use numbers::little::read_u32;
 use protobuf::refusal::Refusal;
 use wire::record::WireBlock;
 
-#[derive(Drop)]
+#[derive(Clone, Copy)]
 pub enum Got {
     Text(Part),
     None,
     Refused(Refusal),
 }
 
-#[derive(Drop)]
+#[derive(Clone, Copy)]
 pub enum GroupRange {
     Range(Part),
     Refused(Refusal),

@@ -22,21 +22,21 @@ use protobuf::refusal::number;
 use wire::record::WireBlock;
 
 // A member that was put, with the state behind it; or the code of the end, with the state before it.
-#[derive(Drop)]
+#[derive(Clone, Copy)]
 struct MemberPut {
     code: u32,
     next: RelMemberIter,
 }
 
 // How many there are behind a run, and the state behind them.
-#[derive(Drop)]
+#[derive(Clone, Copy)]
 struct MembersRun {
     count: usize,
     next: RelMemberIter,
 }
 
 // How many were put, with the state behind them; where none was, the code and the ended state.
-#[derive(Drop)]
+#[derive(Clone, Copy)]
 struct MembersFilled {
     code: u32,
     count: usize,

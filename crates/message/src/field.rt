@@ -10,7 +10,7 @@ use protobuf::refusal::Refusal;
 use protobuf::tag::{LEN, Tag, VARINT, read_tag};
 
 // What stands where a field may be.
-#[derive(Drop)]
+#[derive(Clone, Copy)]
 pub enum Field {
     // The message is complete.
     Complete,

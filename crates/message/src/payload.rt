@@ -9,7 +9,7 @@ use protobuf::tag::{EGROUP, I32, I64, LEN, SGROUP, Tag, VARINT, read_tag};
 use protobuf::varint::{Varint, read_varint, refusal_of};
 
 // What a payload is.
-#[derive(Drop)]
+#[derive(Clone, Copy)]
 pub enum Payload {
     // The number that was read (0 where it is no varint and no length), where the raw bytes stand, and the place behind them.
     Taken {
@@ -22,7 +22,7 @@ pub enum Payload {
 }
 
 // What passing over a payload gives.
-#[derive(Drop)]
+#[derive(Clone, Copy)]
 pub enum Skip {
     Past(usize),
     Refused(Refusal),

@@ -2,7 +2,7 @@
 use protobuf::refusal::Refusal;
 
 // What else may be said of a block gets a case of its own.
-#[derive(Drop)]
+#[derive(Clone, Copy)]
 pub enum Checked {
     Accepted,
     Refused(Refusal),

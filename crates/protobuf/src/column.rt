@@ -9,14 +9,14 @@ use crate::refusal::Refusal;
 use crate::varint::{Varint, read_varint, refusal_of};
 
 // Where a reader of a column stands, and where the column ends. It has ended where the two are equal.
-#[derive(Drop)]
+#[derive(Clone, Copy)]
 pub struct Column {
     pub at: usize,
     pub end: usize,
 }
 
 // What the reader finds next, with its next state. A refusal ends it: its state is the ended one that is inside every buffer.
-#[derive(Drop)]
+#[derive(Clone, Copy)]
 pub enum Step {
     Value { value: u64, next: Column },
     Ended,

@@ -19,7 +19,7 @@ pub const EGROUP: u32 = 4;
 pub const I32: u32 = 5;
 
 // What stands where a tag may be.
-#[derive(Drop)]
+#[derive(Clone, Copy)]
 pub enum Tag {
     // The message is done.
     Done,

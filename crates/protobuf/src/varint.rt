@@ -6,7 +6,7 @@ ghost use Rattle.protobuf.specs.Answers.{varint_of, refusal_of};
 use crate::refusal::Refusal;
 
 // What stands where a varint is due.
-#[derive(Drop)]
+#[derive(Clone, Copy)]
 pub enum Varint {
     // Its value, and the place behind it.
     Value { value: u64, next: usize },

@@ -6,7 +6,7 @@ use numbers::signed::{wrapping_add_i64, zigzag_i64};
 use protobuf::column::{Column, Step, next_value};
 
 // Where a reader goes on, or that it has ended.
-#[derive(Drop)]
+#[derive(Clone, Copy)]
 enum Going {
     On(Column),
     Ended,
@@ -77,14 +77,14 @@ fn packed(label: &[u8], s: &[u8], at: usize) {
 }
 
 // A column of sint64 differences under way: its reader, and the sum so far.
-#[derive(Drop)]
+#[derive(Clone, Copy)]
 struct Running {
     state: Column,
     sum: i64,
 }
 
 // The sum that one more difference gives, or that there is none.
-#[derive(Drop)]
+#[derive(Clone, Copy)]
 enum Sum {
     So(Running),
     Ended,

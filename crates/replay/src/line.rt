@@ -40,14 +40,14 @@ pub(crate) const KINDS: usize = 16;
 pub(crate) const BYTES: usize = 4096;
 
 // A number, and the place behind its word.
-#[derive(Drop)]
+#[derive(Clone, Copy)]
 struct Number {
     value: usize,
     next: usize,
 }
 
 // The numbers of a question: how many there are, and the place behind them; those that are missing are 0.
-#[derive(Drop)]
+#[derive(Clone, Copy)]
 pub(crate) struct Numbers {
     pub(crate) count: usize,
     pub(crate) next: usize,
@@ -271,7 +271,7 @@ fn nibble(byte: u8) -> u8 {
 }
 
 // What two digits spell.
-#[derive(Drop)]
+#[derive(Clone, Copy)]
 enum Pair {
     Byte(u8),
     NoDigits,

@@ -10,7 +10,7 @@ use std::num::{wrapping_sub_u64, wrapping_sub_usize};
 pub(crate) const ROOM: usize = 2048;
 
 // An answer: where its text ends, and the number of the refusal that it is or ends with, 0 where it is none.
-#[derive(Drop)]
+#[derive(Clone, Copy)]
 pub(crate) struct Said {
     pub(crate) end: usize,
     pub(crate) refusal: u32,

@@ -9,7 +9,7 @@ use crate::words::{NOWHERE, pass_sign, pass_text};
 pub(crate) const BYTES: usize = 4096;
 
 // What a line is.
-#[derive(Drop)]
+#[derive(Clone, Copy)]
 pub(crate) enum Kind {
     Comment,
     Plain,

@@ -7,14 +7,14 @@ use wire::record::WireBlock;
 
 // How a block is walked: with metadata or without, and by which of the calls that give the same: `other` begins with `next`, and has tags by
 // `step_raw`.
-#[derive(Drop)]
+#[derive(Clone, Copy)]
 pub(crate) struct How {
     pub(crate) full: bool,
     pub(crate) other: bool,
 }
 
 // Where the text was followed to, whether the walk is over, and whether a refusal ended it.
-#[derive(Drop)]
+#[derive(Clone, Copy)]
 pub(crate) struct Passed {
     pub(crate) at: usize,
     pub(crate) over: bool,

@@ -3,7 +3,7 @@ use libc::STDOUT_FILENO;
 use std::num::wrapping_add_u64;
 
 // How a line came out.
-#[derive(Drop)]
+#[derive(Clone, Copy)]
 pub(crate) enum Outcome {
     // The text agreed, and the walk came to its end.
     Ended,
@@ -14,7 +14,7 @@ pub(crate) enum Outcome {
 }
 
 // The lines of a kind by how they came out.
-#[derive(Drop)]
+#[derive(Clone, Copy)]
 pub(crate) struct Counts {
     pub(crate) ended: u64,
     pub(crate) stopped: u64,
@@ -23,7 +23,7 @@ pub(crate) struct Counts {
 }
 
 // The lines of each kind, and how many lines ask for no walk.
-#[derive(Drop)]
+#[derive(Clone, Copy)]
 pub(crate) struct Tally {
     pub(crate) plain: Counts,
     pub(crate) full: Counts,

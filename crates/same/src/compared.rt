@@ -5,7 +5,7 @@ ghost use Rattle.same.specs.Compared.{compared_of};
 
 use protobuf::refusal::Refusal;
 
-#[derive(Drop)]
+#[derive(Clone, Copy)]
 pub enum Compared {
     Same,
     Differ,

@@ -19,7 +19,7 @@ use elements::tags::TagIter;
 use wire::record::WireBlock;
 
 // What is known of an element without a reader: its group, a number for its kind, its id, and its raw position, 0 and 0 where it has none.
-#[derive(Drop)]
+#[derive(Clone, Copy)]
 struct Head {
     group: usize,
     kind: u32,

@@ -16,7 +16,7 @@ use lookup::by_number::Got;
 use wire::record::WireBlock;
 
 // A member's id as numbers: its case, the type where that is unknown, and the id.
-#[derive(Drop)]
+#[derive(Clone, Copy)]
 struct MemberKey {
     case: u32,
     kind: i32,

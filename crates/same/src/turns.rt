@@ -6,7 +6,7 @@ ghost use Rattle.same.specs.Turns.{ends_of};
 use crate::compared::Compared;
 use protobuf::refusal::Refusal;
 
-#[derive(Drop)]
+#[derive(Clone, Copy)]
 pub(crate) enum Turn {
     Hands,
     Ended,

@@ -36,19 +36,19 @@ const WAY: u64 = 2;
 const RELATION: u64 = 3;
 
 // A state to start at, or the code and the ended one.
-#[derive(Drop)]
+#[derive(Clone, Copy)]
 struct RefsStart {
     code: u32,
     state: WayRefIter,
 }
 
-#[derive(Drop)]
+#[derive(Clone, Copy)]
 struct TagsStart {
     code: u32,
     state: TagIter,
 }
 
-#[derive(Drop)]
+#[derive(Clone, Copy)]
 struct MembersStart {
     code: u32,
     state: RelMemberIter,

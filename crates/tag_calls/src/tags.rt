@@ -25,21 +25,21 @@ use protobuf::refusal::number;
 use wire::record::WireBlock;
 
 // A tag that was put, with the state behind it; or the code of the end, with the state before it.
-#[derive(Drop)]
+#[derive(Clone, Copy)]
 pub(crate) struct TagPut {
     pub code: u32,
     pub next: TagIter,
 }
 
 // How many there are behind a run, and the state behind them.
-#[derive(Drop)]
+#[derive(Clone, Copy)]
 struct TagsRun {
     count: usize,
     next: TagIter,
 }
 
 // How many were put, with the state behind them; where none was, the code and the ended state.
-#[derive(Drop)]
+#[derive(Clone, Copy)]
 pub(crate) struct TagsFilled {
     pub code: u32,
     pub count: usize,

@@ -15,7 +15,7 @@ use fields::slot::Rule;
 use protobuf::refusal::Refusal;
 
 // `user` is user_sid.
-#[derive(Drop)]
+#[derive(Clone, Copy)]
 pub struct WireDenseInfo {
     pub version: Part,
     pub timestamp: Part,
@@ -25,7 +25,7 @@ pub struct WireDenseInfo {
     pub visible: Part,
 }
 
-#[derive(Drop)]
+#[derive(Clone, Copy)]
 pub enum DenseInfoParse {
     Parsed(WireDenseInfo),
     Refused(Refusal),

@@ -15,7 +15,7 @@ use fields::slot::Rule;
 use protobuf::refusal::Refusal;
 
 // `keyvals` is keys_vals.
-#[derive(Drop)]
+#[derive(Clone, Copy)]
 pub struct WireDenseNodes {
     pub id: Part,
     pub info: Part,
@@ -24,7 +24,7 @@ pub struct WireDenseNodes {
     pub keyvals: Part,
 }
 
-#[derive(Drop)]
+#[derive(Clone, Copy)]
 pub enum DenseNodesParse {
     Parsed(WireDenseNodes),
     Refused(Refusal),

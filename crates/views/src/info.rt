@@ -15,28 +15,28 @@ use numbers::signed::{int32, int64};
 use protobuf::refusal::Refusal;
 
 // A number of 32 bits, if there is one: 0 where there is none.
-#[derive(Drop)]
+#[derive(Clone, Copy)]
 pub struct Number32 {
     pub present: bool,
     pub value: i32,
 }
 
 // The same in 64 bits.
-#[derive(Drop)]
+#[derive(Clone, Copy)]
 pub struct Number64 {
     pub present: bool,
     pub value: i64,
 }
 
 // A bool, if there is one: false where there is none.
-#[derive(Drop)]
+#[derive(Clone, Copy)]
 pub struct Flag {
     pub present: bool,
     pub value: bool,
 }
 
 // `user` is user_sid.
-#[derive(Drop)]
+#[derive(Clone, Copy)]
 pub struct WireInfo {
     pub version: Number32,
     pub timestamp: Number64,
@@ -46,21 +46,21 @@ pub struct WireInfo {
     pub visible: Flag,
 }
 
-#[derive(Drop)]
+#[derive(Clone, Copy)]
 pub enum InfoParse {
     Parsed(WireInfo),
     Refused(Refusal),
 }
 
 // The number of a slot, and whether it was read.
-#[derive(Drop)]
+#[derive(Clone, Copy)]
 pub struct Scalar {
     pub present: bool,
     pub value: u64,
 }
 
 // The message's slots.
-#[derive(Drop)]
+#[derive(Clone, Copy)]
 pub struct InfoFields {
     pub version: Scalar,
     pub timestamp: Scalar,

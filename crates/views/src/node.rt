@@ -15,7 +15,7 @@ use fields::slot::Rule;
 use numbers::signed::zigzag_i64;
 use protobuf::refusal::Refusal;
 
-#[derive(Drop)]
+#[derive(Clone, Copy)]
 pub struct WireNode {
     pub id: i64,
     pub lat: i64,
@@ -25,7 +25,7 @@ pub struct WireNode {
     pub info: Part,
 }
 
-#[derive(Drop)]
+#[derive(Clone, Copy)]
 pub enum NodeParse {
     Parsed(WireNode),
     Refused(Refusal),

@@ -15,7 +15,7 @@ use fields::slot::Rule;
 use numbers::signed::int64;
 use protobuf::refusal::Refusal;
 
-#[derive(Drop)]
+#[derive(Clone, Copy)]
 pub struct WireRelation {
     pub id: i64,
     pub keys: Part,
@@ -26,7 +26,7 @@ pub struct WireRelation {
     pub types: Part,
 }
 
-#[derive(Drop)]
+#[derive(Clone, Copy)]
 pub enum RelationParse {
     Parsed(WireRelation),
     Refused(Refusal),

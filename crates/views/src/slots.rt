@@ -22,7 +22,7 @@ use protobuf::refusal::Refusal;
 // A place that no field here has by its number: so eleven slots suffice for every message.
 pub(crate) const PLACE_20: usize = 7;
 
-#[derive(Drop)]
+#[derive(Clone, Copy)]
 pub enum View {
     Node,
     Way,
@@ -32,7 +32,7 @@ pub enum View {
     Info,
 }
 
-#[derive(Drop)]
+#[derive(Clone, Copy)]
 pub enum Status {
     Kept,
     Refused(Refusal),

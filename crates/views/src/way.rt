@@ -15,7 +15,7 @@ use fields::slot::Rule;
 use numbers::signed::int64;
 use protobuf::refusal::Refusal;
 
-#[derive(Drop)]
+#[derive(Clone, Copy)]
 pub struct WireWay {
     pub id: i64,
     pub keys: Part,
@@ -27,7 +27,7 @@ pub struct WireWay {
     pub pins: Part,
 }
 
-#[derive(Drop)]
+#[derive(Clone, Copy)]
 pub enum WayParse {
     Parsed(WireWay),
     Refused(Refusal),

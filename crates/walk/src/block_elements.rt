@@ -21,7 +21,7 @@ use protobuf::refusal::Refusal;
 use wire::record::WireBlock;
 
 // What a step says.
-#[derive(Drop)]
+#[derive(Clone, Copy)]
 pub enum Said {
     // An element, with its group's number and its message's part.
     Element {
@@ -34,7 +34,7 @@ pub enum Said {
 }
 
 // Every answer hands back a state: behind ended and behind a refusal it is the ended one.
-#[derive(Drop)]
+#[derive(Clone, Copy)]
 pub struct ElementStep {
     pub said: Said,
     pub next: BlockElementsIter,

@@ -20,7 +20,7 @@ use views::dense_nodes::{DenseNodesParse, WireDenseNodes};
 use wire::record::WireBlock;
 
 // What stands at a group's number: a group, with its dense message, present or not; or no group any more.
-#[derive(Drop)]
+#[derive(Clone, Copy)]
 enum Entry {
     Group { of: GroupRangeAt, message: Part },
     Past,

@@ -3,21 +3,21 @@ use columns::info_rows::InfoColumns;
 use kinds::state::{DenseColumns, GroupRangeAt, Messages};
 
 // Before a group's number, which is the group count at the end.
-#[derive(Drop)]
+#[derive(Clone, Copy)]
 pub struct Between {
     pub full: bool,
     pub group: usize,
 }
 
 // The range of a message in the buffer.
-#[derive(Drop)]
+#[derive(Clone, Copy)]
 pub struct Range {
     pub start: usize,
     pub len: usize,
 }
 
 // Among a group's dense nodes, with the range of their message.
-#[derive(Drop)]
+#[derive(Clone, Copy)]
 pub struct DenseNodeIter {
     pub of: GroupRangeAt,
     pub message: Range,
@@ -25,13 +25,13 @@ pub struct DenseNodeIter {
 }
 
 // The same in a full walk, with the columns of DenseInfo.
-#[derive(Drop)]
+#[derive(Clone, Copy)]
 pub struct FullDenseNodeIter {
     pub nodes: DenseNodeIter,
     pub infos: InfoColumns,
 }
 
-#[derive(Drop)]
+#[derive(Clone, Copy)]
 pub enum BlockElementsIter {
     Ended,
     Between(Between),

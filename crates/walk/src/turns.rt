@@ -10,7 +10,7 @@ use fields::part::Part;
 use protobuf::refusal::Refusal;
 
 // With the state behind it, whichever it is. Where it is quiet, what it says is not told.
-#[derive(Drop)]
+#[derive(Clone, Copy)]
 pub struct Move {
     pub quiet: bool,
     pub said: Said,

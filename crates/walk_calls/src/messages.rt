@@ -21,7 +21,7 @@ use walk::inside::group_inside;
 use wire::record::WireBlock;
 
 // How many messages were put, with the place behind them.
-#[derive(Drop)]
+#[derive(Clone, Copy)]
 pub(crate) struct MessagesFilled {
     pub(crate) count: usize,
     pub(crate) at: usize,

@@ -19,7 +19,7 @@ use walk::state::DenseNodeIter;
 use wire::record::WireBlock;
 
 // How many dense nodes were put, with the columns behind them.
-#[derive(Drop)]
+#[derive(Clone, Copy)]
 pub(crate) struct NodesFilled {
     pub(crate) count: usize,
     pub(crate) columns: DenseColumns,

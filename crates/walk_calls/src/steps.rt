@@ -23,14 +23,14 @@ use walk_slots::slot::{PhaseIn, nodes_in, phase_in, put_messages, put_nodes, put
 use wire::record::WireBlock;
 
 // An element that was put, with the state behind it; or the code of the end, with the state before it.
-#[derive(Drop)]
+#[derive(Clone, Copy)]
 struct ElementPut {
     code: u32,
     next: BlockElementsIter,
 }
 
 // How many were put, with the state behind them; where none was, the code and the ended state.
-#[derive(Drop)]
+#[derive(Clone, Copy)]
 struct StepsFilled {
     code: u32,
     count: usize,

@@ -35,7 +35,7 @@ use walk::state::{Between, BlockElementsIter, DenseNodeIter, FullDenseNodeIter, 
 
 // What a slot's first numbers tell: the whole state but for the columns of dense nodes. Functions that branch answer this and not the
 // state, which is large (docs/PROVING.md, Walks).
-#[derive(Drop)]
+#[derive(Clone, Copy)]
 pub enum PhaseIn {
     Ended,
     Between(Between),

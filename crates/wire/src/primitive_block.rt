@@ -13,7 +13,7 @@ use numbers::signed::is_int32;
 use protobuf::refusal::Refusal;
 
 // The block's slots, numbers as read, with the defaults of a field that is missing.
-#[derive(Drop)]
+#[derive(Clone, Copy)]
 pub struct BlockFields {
     pub strings: Part,
     pub groups: usize,
@@ -23,7 +23,7 @@ pub struct BlockFields {
     pub lonoffset: u64,
 }
 
-#[derive(Drop)]
+#[derive(Clone, Copy)]
 pub enum BlockStored {
     Kept(BlockFields),
     Refused(Refusal),

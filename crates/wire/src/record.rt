@@ -1,6 +1,6 @@
 // The record of a scanned block, by value: WireBlockMeta of the Rust.
 
-#[derive(Drop)]
+#[derive(Clone, Copy)]
 pub struct WireBlock {
     // The block's length in bytes.
     pub block: usize,

@@ -18,13 +18,13 @@ use protobuf::refusal::Refusal;
 // The longest block that is scanned.
 pub const LIMIT: usize = 33554432;
 
-#[derive(Drop)]
+#[derive(Clone, Copy)]
 pub enum Count {
     Counted(usize),
     Refused(Refusal),
 }
 
-#[derive(Drop)]
+#[derive(Clone, Copy)]
 pub enum BlockScan {
     Scanned(WireBlock),
     Refused(Refusal),

@@ -1,0 +1,39 @@
+-- `record_in` makes the tests of `recordIn` in its order, and reads the nine numbers where all of them hold.
+use borrow.Author.Rules.{rules}
+use mathlib.Core.Path.{ap, ◌∙◌}
+use mir.Syntax.{w32, w64}
+use Rattle.numbers.specs.Signed.{twos}
+use Rattle.numbers.proofs.laws.Machine.{returned}
+use Rattle.fields.specs.Outcome.{kept}
+use Rattle.fields.proofs.laws.Part.{refuted, confirmed}
+use Rattle.answers.proofs.laws.Record.{record-short, no-granularity, no-dategranularity, record-kept}
+use Rattle.answers.proofs.record.record_in.Goals as goal
+
+pub returns-then-s-lt72 : goal.returns-then-s-lt72
+returns-then-s-lt72 c = record-short _ c.if-s-lt72.true
+
+pub returns-then-not-is_int32 : goal.returns-then-not-is_int32
+returns-then-not-is_int32 c = no-granularity _ c.if-s-lt72.false c.read_u64-granularity.ensures c.read_u64-dategranularity.ensures (refuted c.is_int32.ensures c.if-not-is_int32.true-raw)
+
+pub returns-then-not-is_int32-2 : goal.returns-then-not-is_int32-2
+returns-then-not-is_int32-2 c = no-dategranularity _ c.if-s-lt72.false c.read_u64-granularity.ensures c.read_u64-dategranularity.ensures
+    (confirmed c.is_int32.ensures c.if-not-is_int32.false-raw)
+    (refuted c.is_int32-2.ensures c.if-not-is_int32-2.true-raw)
+
+pub returns : goal.returns
+returns c = let eg = c.read_u64-granularity.ensures in
+    let ed = c.read_u64-dategranularity.ensures in
+    ap kept
+    (λ i.
+    record {
+      block = c.read_u64.ensures i;
+      strings = c.read_u64-2.ensures i;
+      stringtable = c.read_u64-3.ensures i;
+      groups = c.read_u64-4.ensures i;
+      grouptable = c.read_u64-5.ensures i;
+      granularity = returned w32 c.int32.type_inv (c.int32.ensures ∙ ap (twos 32) eg) i;
+      dategranularity = returned w32 c.int32-2.type_inv (c.int32-2.ensures ∙ ap (twos 32) ed) i;
+      latoffset = returned w64 c.int64.type_inv (c.int64.ensures ∙ ap (twos 64) c.read_u64-6.ensures) i;
+      lonoffset = returned w64 c.int64-2.type_inv (c.int64-2.ensures ∙ ap (twos 64) c.read_u64-7.ensures) i;
+    })
+    ∙ record-kept _ c.if-s-lt72.false eg ed (confirmed c.is_int32.ensures c.if-not-is_int32.false-raw) (confirmed c.is_int32-2.ensures c.if-not-is_int32-2.false-raw)

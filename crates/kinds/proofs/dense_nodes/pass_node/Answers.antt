@@ -1,0 +1,23 @@
+-- `pass_node` passes one byte where that is 0, which is the end of the pairs, and else the pairs.
+use borrow.Author.Rules.{rules}
+use native.Mathlib.Omega.{arith}
+use mathlib.Core.Path.{sym, ◌∙◌}
+use Rattle.kinds.proofs.laws.Dense.{byte_within, byte_behind, byte_passed, passed-inside}
+use Rattle.kinds.proofs.dense_nodes.pass_node.Goals as goal
+
+pub overflow_add-result : goal.overflow_add-result
+overflow_add-result c =
+    let a = c.args in
+    omega (arith, byte_within a.buffer.now a.keyvals (sym c.has_no_pairs.ensures ∙ c.if-has_no_pairs.true))
+
+pub returns-then-has_no_pairs : goal.returns-then-has_no_pairs
+returns-then-has_no_pairs c =
+    let a = c.args in
+    let none = sym c.has_no_pairs.ensures ∙ c.if-has_no_pairs.true in
+    record { says = byte_passed a.buffer.now a.keyvals none; inside = byte_behind a.buffer.now a.keyvals none }
+
+pub returns-then-has_no_pairs : goal.returns
+returns-then-has_no_pairs c =
+    let a = c.args in
+    let p = c.pass_pairs in
+    record { says = p.ensures.0; inside = passed-inside a.buffer.now a.keyvals p.result p.ensures.0 p.ensures.1 }

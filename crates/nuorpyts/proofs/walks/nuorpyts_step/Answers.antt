@@ -1,0 +1,16 @@
+-- `nuorpyts_step` answers what the short way does where it serves, and else what `next_step` does; the claim about two blocks holds of every
+-- buffer and record.
+use borrow.Author.Rules.{rules}
+use Rattle.short_calls.proofs.laws.Short.{step_served, step_unserved}
+use Rattle.nuorpyts.proofs.laws.Chains.{whole_in}
+use Rattle.nuorpyts.proofs.walks.nuorpyts_step.Goals as goal
+
+pub returns-then-short_step : goal.returns-then-short_step
+returns-then-short_step c =
+    let told = step_served _ _ c.short_step.ensures c.if-short_step.true in
+    let said = (told.0, (told.1.0, (told.1.1, λ b n s' rec b' n' x y. whole_in x y))) in record { code = said.0; next = said.1; after = said.2; whole = said.3 }
+
+pub returns : goal.returns
+returns c =
+    let told = step_unserved _ _ c.short_step.ensures c.if-short_step.false _ _ _ c.next_step.ensures in
+    let said = (told.0, (told.1.0, (told.1.1, λ b n s' rec b' n' x y. whole_in x y))) in record { code = said.0; next = said.1; after = said.2; whole = said.3 }

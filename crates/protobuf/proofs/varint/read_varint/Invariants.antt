@@ -1,0 +1,12 @@
+-- `read_varint` reads what `varint` says: the bytes so far have given `value`, and the definition resumes where the loop stands.
+use native.Mathlib.Omega.{arith}
+use mathlib.Core.Path.{sym}
+use Prim.Native.Nat.{◌-◌}
+use Rattle.protobuf.proofs.laws.Varint.{Reading, starts, outside, too_long, cut, fits, last, more}
+use Rattle.protobuf.proofs.varint.read_varint.Given as goal
+
+abbrev pub invariant-loop-k : goal.invariant-loop-k
+invariant-loop-k l = Reading l.s l.at l.value l.k l.i
+
+abbrev pub decreases-loop-k : goal.decreases-loop-k
+decreases-loop-k l = 10 - l.k

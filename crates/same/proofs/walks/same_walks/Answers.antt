@@ -1,0 +1,17 @@
+-- `same_walks` compares the records, and then the elements.
+use borrow.Author.Rules.{rules}
+use Rattle.walk.specs.Same.{same_walks}
+use Rattle.same.proofs.laws.Compared.{test_stops, test_goes-on}
+use Rattle.same.proofs.walks.same_walks.Goals as goal
+
+pub returns-then-not-same_record : goal.returns-then-not-same_record
+unfolding same_walks
+returns-then-not-same_record c =
+    let a = c.args in
+    test_stops _ (c.same_record.ensures a.first.now a.second.now) c.if-not-same_record.true-raw
+
+pub returns-then-not-same_record : goal.returns
+unfolding same_walks
+returns-then-not-same_record c =
+    let a = c.args in
+    test_goes-on (c.same_record.ensures a.first.now a.second.now) c.if-not-same_record.false-raw c.same_elements.ensures

@@ -1,0 +1,20 @@
+-- `raw_tags_into` goes by what the slot holds, and puts the state behind what it hands out.
+use borrow.Author.Rules.{rules}
+use mathlib.Core.Path.{ap}
+use Rattle.elements.specs.Tags.{raw_tags_from}
+use Rattle.elements.specs.declared.tags.TagIter.TheVariants as iter
+use Rattle.tag_calls.specs.Tags.{tag_words, tags_at, raw_tag_item, tags_over}
+use Rattle.calls.proofs.laws.Calls.{call_short, call_ended, call_asks}
+use Rattle.tag_calls.proofs.laws.Tags.{tags_going}
+use Rattle.tag_calls.proofs.raw_tags.raw_tags_into.Goals as goal
+
+pub returns-then-slot-lt40 : goal.returns-then-slot-lt40
+returns-then-slot-lt40 c = call_short _ raw_tag_item (raw_tags_from _) 16 iter.Ended tags_at tag_words tags_over 40 _ _ _ c.if-slot-lt40.true
+
+pub returns-in-Ended : goal.returns-in-Ended
+returns-in-Ended c = call_ended _ raw_tag_item (raw_tags_from _) 16 iter.Ended tags_at tag_words tags_over 40 _ _ _ c.if-slot-lt40.false c.tags_in-start.ensures (ap tags_over c.in-Ended.is)
+
+pub returns-in_default : goal.returns-in_default
+returns-in_default c = let put = c.put_tags.ensures in
+    let long = c.if-slot-lt40.false in
+    call_asks _ raw_tag_item (raw_tags_from _) 16 iter.Ended tags_at tag_words tags_over 40 _ _ _ long c.tags_in-start.ensures put.after (put.back long) (tags_going c.tags_in-start.result c.in_default.in_default-own.keys2) c.fill_raw_tags-r.ensures

@@ -1,0 +1,13 @@
+-- `next_tag` is a call with room for one tag.
+use borrow.Author.Rules.{rules}
+use Rattle.tag_calls.specs.Tags.{tags_call}
+use Rattle.calls.proofs.laws.Calls.{with-room, own-items}
+use Rattle.tag_calls.proofs.tags.next_tag.Goals as goal
+
+pub tags_into-r-requires : goal.tags_into-r-requires
+tags_into-r-requires c = c.one_room-most.ensures.fits
+
+pub returns : goal.returns
+returns c = let a = c.args in
+    let p = with-room (tags_call a.buffer.now a.rec.now a.slot.now) c.one_room-most.ensures.is c.tags_into-r.ensures in
+    let said = (p.tells-code, (p.leaves-slot, own-items p.puts)) in record { code = said.0; next = said.1; after = said.2 }

@@ -1,0 +1,68 @@
+-- `short_pairs` puts the tag of a word and the word behind it, and stops before what no words tell, a key 0, and what has no texts.
+use borrow.Author.Rules.{rules}
+use Prim.Native.Nat.{◌-◌}
+use native.Mathlib.Omega.{arith}
+use mathlib.Core.Path.{◌≡◌, refl, ◌∙◌}
+use lib.Dec.{lit≤}
+use lib.ListN.{length}
+use Rattle.elements.specs.Tags.{tags_from}
+use Rattle.elements.specs.declared.tags.TagIter.TheVariants as iter
+use Rattle.calls.specs.Filling.{Run}
+use Rattle.tag_calls.specs.Tags.{tag_item}
+use Rattle.calls.proofs.laws.Calls.{run-begins, run-same, run_on}
+use Rattle.columns.proofs.laws.Short.{word_within}
+use Rattle.tag_calls.proofs.laws.ShortTags.{texts-found, texts-missing, table-inside, pair_put}
+use Rattle.tag_calls.proofs.tags.short_pairs.Goals as goal
+
+-- one tag more
+pub loop-count-preserved : goal.loop-count-preserved
+loop-count-preserved c = (
+  c.put_texts.auto.1.1.1.1.1.0 ∙ c.loop-count.invariant.0,
+  run_on tag_item (tags_from _ _) 48 c.loop-count.invariant.1 (λ x. lit≤ tt) c.loop-count-test.true
+      (pair_put _ _ c.requires.block_value _ c.if-k-lt16.false c.if-v-eq0.false c.wide_value-k.ensures c.wide_value-v.ensures (texts-found c.put_texts.ensures c.if-not-put_texts.false-raw)),
+)
+
+pub loop-count-init : goal.loop-count-init
+loop-count-init c = (refl, run-begins tag_item (tags_from _ _) 48)
+
+pub overflow_add-middle : goal.overflow_add-middle
+overflow_add-middle c = omega (arith, word_within _ _ (λ z. omega (arith, c.if-k-lt16.false, z)) c.wide_value-k.ensures)
+
+pub overflow_mul-count : goal.overflow_mul-count
+overflow_mul-count c = omega (arith, c.loop-count.invariant.0, c.requires.most_in_bounds)
+
+pub put_texts-requires : goal.put_texts-requires
+put_texts-requires c = table-inside c.args.buffer.now c.args.block c.requires.block_value
+
+pub overflow_add-at : goal.overflow_add-at
+overflow_add-at c = omega (arith, word_within _ _ c.if-v-eq0.false c.wide_value-v.ensures)
+
+pub overflow_add-count : goal.overflow_add-count
+overflow_add-count c = omega arith
+
+pub loop-count-smaller : goal.loop-count-smaller
+loop-count-smaller c = omega arith
+
+pub shape_of-out-after-loop-count : goal.shape_of-out-after-loop-count
+shape_of-out-after-loop-count c = c.loop-count.invariant.0
+
+pub returns-after-loop-count : goal.returns-after-loop-count
+returns-after-loop-count c = c.loop-count.invariant.1
+
+pub shape_of-out-then-k-lt16 : goal.shape_of-out-then-k-lt16
+shape_of-out-then-k-lt16 c = c.loop-count.invariant.0
+
+pub returns-then-k-lt16 : goal.returns-then-k-lt16
+returns-then-k-lt16 c = c.loop-count.invariant.1
+
+pub shape_of-out-then-v-eq0 : goal.shape_of-out-then-v-eq0
+shape_of-out-then-v-eq0 c = c.loop-count.invariant.0
+
+pub returns-then-v-eq0 : goal.returns-then-v-eq0
+returns-then-v-eq0 c = c.loop-count.invariant.1
+
+pub shape_of-out-then-not-put_texts : goal.shape_of-out-then-not-put_texts
+shape_of-out-then-not-put_texts c = c.put_texts.auto.1.1.1.1.1.0 ∙ c.loop-count.invariant.0
+
+pub returns-then-not-put_texts : goal.returns-then-not-put_texts
+returns-then-not-put_texts c = run-same tag_item (tags_from _ _) 48 (texts-missing c.put_texts.ensures c.if-not-put_texts.true-raw) c.loop-count.invariant.1

@@ -1,0 +1,15 @@
+-- `WireNode::parse` views the part and hands the record out.
+use borrow.Author.Rules.{rules}
+use mathlib.Core.Path.{ap, ◌∙◌}
+use Rattle.fields.specs.Outcome.{kept}
+use Rattle.views.specs.Node.{node_of}
+use Rattle.views.proofs.laws.Slots.{handed-refused, handed-kept}
+use Rattle.views.proofs.node.WireNode.parse.Goals as goal
+
+pub returns-in-Refused : goal.returns-in-Refused
+returns-in-Refused c = handed-refused node_of _ _ _ _ c.read_view-status.ensures c.in-Refused.is
+
+pub returns-in-Kept : goal.returns-in-Kept
+returns-in-Kept c =
+    ap kept c.node_of.ensures
+    ∙ handed-kept node_of _ _ _ _ c.read_view-status.ensures c.in-Kept.is

@@ -1,0 +1,14 @@
+-- `start_infos` starts each column at its part.
+use borrow.Author.Rules.{rules}
+use Rattle.walk.proofs.moves.start_infos.Goals as goal
+
+pub returns : goal.returns
+returns c =
+    λ i. record {
+      version = c.start_column.ensures i;
+      c.before.before.before.before = c.start_sum64.ensures i;
+      changeset = c.start_sum64-2.ensures i;
+      c.before.before = c.start_sum32.ensures i;
+      user = c.start_sum32-2.ensures i;
+      visible = c.start_column-2.ensures i;
+    }

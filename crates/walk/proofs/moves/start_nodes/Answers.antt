@@ -1,0 +1,16 @@
+-- `start_nodes` starts each column at its part.
+use borrow.Author.Rules.{rules}
+use Rattle.walk.proofs.moves.start_nodes.Goals as goal
+
+pub returns : goal.returns
+returns c =
+    let a = c.args in
+    λ i. record {
+      of = a.of;
+      message = record { start = a.message.start; len = a.message.len };
+      columns =
+          record {
+            rows = record { c.before.before.before = c.start_sum64.ensures i; c.before.before = c.start_sum64-2.ensures i; c.before = c.start_sum64-3.ensures i };
+            keyvals = c.start_column.ensures i;
+          };
+    }

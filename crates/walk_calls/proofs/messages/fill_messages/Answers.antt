@@ -1,0 +1,62 @@
+-- `fill_messages` puts message after message, until there is no more room, no next message, or one that its view refuses.
+use borrow.Author.Rules.{rules}
+use Prim.Native.Nat.{◌-◌}
+use native.Mathlib.Omega.{arith}
+use mathlib.Core.Path.{refl, ap, ◌∙◌}
+use lib.ListN.{length}
+use Rattle.fields.proofs.laws.Part.{refuted, confirmed}
+use Rattle.walk.specs.declared.state.BlockElementsIter.TheVariants as walk
+use Rattle.kinds.specs.Said.{at_place}
+use Rattle.kinds.proofs.laws.Loose.{Finds, finds}
+use Rattle.walk_calls.proofs.laws.Fills.{Elements, elements_begin, element-room, elements-on, message-onward, fills_same}
+use Rattle.walk_calls.proofs.laws.Messages.{message-there, none-there}
+use Rattle.walk_calls.proofs.messages.fill_messages.Goals as goal
+
+pub loop-count-init : goal.loop-count-init
+loop-count-init c = elements_begin _ _ (walk.Messages c.args.m) c.requires
+
+pub shape_of-out-in_default : goal.shape_of-out-in_default
+shape_of-out-in_default c = c.loop-count.invariant.long
+
+pub returns-in_default : goal.returns-in_default
+returns-in_default c = c.loop-count.invariant.filling
+
+pub overflow_mul-count : goal.overflow_mul-count
+overflow_mul-count c = omega (arith, element-room _ _ c.loop-count.invariant c.loop-count-test.true)
+
+pub put_message-requires : goal.put_message-requires
+put_message-requires c = element-room _ _ c.loop-count.invariant c.loop-count-test.true
+
+pub shape_of-out-then-not-put_message : goal.shape_of-out-then-not-put_message
+shape_of-out-then-not-put_message c = ap length (none-there _ _ _ _ _ _ _ c.put_message.ensures (refuted refl c.if-not-put_message.true-raw)) ∙ c.loop-count.invariant.long
+
+pub returns-then-not-put_message : goal.returns-then-not-put_message
+returns-then-not-put_message c = fills_same (none-there _ _ _ _ _ _ _ c.put_message.ensures (refuted refl c.if-not-put_message.true-raw)) c.loop-count.invariant.filling
+
+pub overflow_add-at : goal.overflow_add-at
+overflow_add-at c = let found : Finds c.args.buffer.now (at_place c.args.m c.loop-count.at) c.in-Message.part =
+    finds _ (at_place c.args.m c.loop-count.at) c.field_of-field.ensures c.step-r.ensures c.in-Message.is in
+    omega (arith, found.room)
+
+pub overflow_sub-at : goal.overflow_sub-at
+overflow_sub-at c = let found : Finds c.args.buffer.now (at_place c.args.m c.loop-count.at) c.in-Message.part =
+    finds _ (at_place c.args.m c.loop-count.at) c.field_of-field.ensures c.step-r.ensures c.in-Message.is in
+    found.behind
+
+pub overflow_add-count : goal.overflow_add-count
+overflow_add-count c = omega arith
+
+pub loop-count-smaller : goal.loop-count-smaller
+loop-count-smaller c = omega arith
+
+pub loop-count-preserved : goal.loop-count-preserved
+loop-count-preserved c = let found : Finds c.args.buffer.now (at_place c.args.m c.loop-count.at) c.in-Message.part =
+    finds _ (at_place c.args.m c.loop-count.at) c.field_of-field.ensures c.step-r.ensures c.in-Message.is in
+    let there = message-there _ _ _ _ _ _ _ c.put_message.ensures (confirmed refl c.if-not-put_message.false-raw) in
+    elements-on _ _ c.loop-count.invariant c.loop-count-test.true _ (message-onward _ (at_place c.args.m c.loop-count.at) found there.0 there.1.0) there.1.1
+
+pub shape_of-out : goal.shape_of-out
+shape_of-out c = c.loop-count.invariant.long
+
+pub returns : goal.returns
+returns c = c.loop-count.invariant.filling

@@ -1,0 +1,14 @@
+-- `next_step` is a call with room for one element.
+use borrow.Author.Rules.{rules}
+use Rattle.walk_calls.specs.Steps.{walk_call}
+use Rattle.walk_calls.proofs.laws.Steps.{elements_in}
+use Rattle.calls.proofs.laws.Calls.{with-room}
+use Rattle.walk_calls.proofs.steps.next_step.Goals as goal
+
+pub steps_into-r-requires : goal.steps_into-r-requires
+steps_into-r-requires c = c.one_room-most.ensures.fits
+
+pub returns : goal.returns
+returns c = let a = c.args in
+    let p = with-room (walk_call a.buffer.now a.rec.now a.slot.now) c.one_room-most.ensures.is c.steps_into-r.ensures in
+    let said = (p.tells-code, (p.leaves-slot, elements_in p.puts)) in record { code = said.0; next = said.1; after = said.2 }

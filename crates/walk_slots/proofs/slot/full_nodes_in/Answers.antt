@@ -1,0 +1,6 @@
+-- `full_nodes_in` reads the nodes and the infos.
+use borrow.Author.Rules.{rules}
+use Rattle.walk_slots.proofs.slot.full_nodes_in.Goals as goal
+
+pub returns : goal.returns
+returns c i = record { nodes = c.nodes_in.ensures i; infos = c.infos_in.ensures i }

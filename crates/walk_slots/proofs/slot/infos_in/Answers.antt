@@ -1,0 +1,13 @@
+-- `infos_in` reads the columns, each at its place.
+use borrow.Author.Rules.{rules}
+use Rattle.walk_slots.proofs.slot.infos_in.Goals as goal
+
+pub returns : goal.returns
+returns c i = record {
+      version = c.column_in.ensures i;
+      timestamp = c.sum_in.ensures i;
+      c.before.before.before = c.sum_in-2.ensures i;
+      uid = c.sum32_in.ensures i;
+      c.before = c.sum32_in-2.ensures i;
+      visible = c.column_in-2.ensures i;
+    }

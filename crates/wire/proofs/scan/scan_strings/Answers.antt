@@ -1,0 +1,33 @@
+-- `scan_strings` reads the chosen string table, which stands within the block, and hands on to the third stage.
+use native.Mathlib.Omega.{arith}
+use mathlib.Core.Path.{sym, ap, ◌∙◌}
+use Rattle.protobuf.proofs.laws.Read.{says}
+use Rattle.fields.specs.Outcome.{each}
+use Rattle.wire.specs.Scan.{counted, meta, after_scan}
+use Rattle.wire.proofs.laws.Scan.{strings-within, strings-refused, strings-read, strings-counted}
+use borrow.Author.Rules.{rules}
+use Rattle.wire.proofs.scan.scan_strings.Goals as goal
+
+pub overflow_add-end : goal.overflow_add-end
+overflow_add-end c =
+    let r = c.requires in
+    omega (arith, strings-within r, r.inside)
+
+pub slice_bounds-count_strings-end : goal.slice_bounds-count_strings-end
+slice_bounds-count_strings-end c =
+    let r = c.requires in
+    omega (arith, strings-within r, r.inside)
+
+pub inline_tables-requires : goal.inline_tables-requires
+inline_tables-requires c = strings-read c.requires (says counted c.count_strings-c.ensures c.in-Counted.is)
+
+pub returns-in-Refused : goal.returns-in-Refused
+unfolding each
+returns-in-Refused c =
+    let e = strings-refused c.requires (says counted c.count_strings-c.ensures c.in-Refused.is) in
+    record { answer = sym (ap (each meta) e); after = sym (ap (after_scan _ _) e) }
+
+pub returns-in-Counted : goal.returns-in-Counted
+returns-in-Counted c =
+    let e = strings-counted c.requires (says counted c.count_strings-c.ensures c.in-Counted.is) in
+    record { answer = c.inline_tables.ensures.answer ∙ sym (ap (each meta) e); after = c.inline_tables.ensures.after ∙ sym (ap (after_scan _ _) e) }

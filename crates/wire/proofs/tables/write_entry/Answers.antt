@@ -1,0 +1,8 @@
+-- `write_entry` writes the entry's two numbers, one behind the other.
+use borrow.Author.Rules.{rules}
+use native.Mathlib.Omega.{arith}
+use Rattle.wire.proofs.laws.Tables.{entry-written}
+use Rattle.wire.proofs.tables.write_entry.Goals as goal
+
+pub returns : goal.returns
+returns c = entry-written _ _ _ (omega arith) c.write_u32.ensures c.write_u32-2.ensures
