@@ -32,5 +32,5 @@ loop-i-preserved c = (
   entries-on c.loop-i.invariant.1 c.loop-i-test.true (range-found _ _ _ c.requires.0 c.loop-i-test.true (sym c.group-g.ensures.answer ∙ c.in-Range.is)).1,
 )
 
-pub returns-in-Refused : goal.returns
-returns-in-Refused c = sym (entries-end c.loop-i.invariant.0 c.loop-i-test.false)
+pub returns : goal.returns
+returns c = sym (entries-end c.loop-i.invariant.0 c.loop-i-test.false)

@@ -19,5 +19,5 @@ loop-i-smaller c = omega (arith, c.loop-i-test.true)
 pub loop-i-preserved : goal.loop-i-preserved
 loop-i-preserved c = entries-on c.loop-i.invariant c.loop-i-test.true (range-found _ _ _ c.requires c.loop-i-test.true (sym c.group-named.ensures.answer ∙ c.in-Range.is)).1
 
-pub returns-in-Refused : goal.returns
-returns-in-Refused c = sym (entries-end c.loop-i.invariant c.loop-i-test.false)
+pub returns : goal.returns
+returns c = sym (entries-end c.loop-i.invariant c.loop-i-test.false)

@@ -21,6 +21,9 @@ use Rattle.calls.proofs.laws.Calls.{run-begins, run_on, run-from, puts-item}
 use Rattle.columns.proofs.laws.Short.{word_tells, word_within}
 use Rattle.calls.proofs.references.short_refs.Given as goal
 
+abbrev state_at : ℕ → ℕ → ℕ → WayRefIter
+state_at at end sum = iter.Refs (record { column = record { at = at; end = end }; sum = to_z w64 sum })
+
 abbrev pub invariant-loop-count : goal.invariant-loop-count
 invariant-loop-count l = (length l.out ≡ length l.initial.out) × Run ref_item (refs_from l.buffer) 8 l.most l.first (state_at l.initial.at l.end l.initial.sum) l.initial.out l.count (state_at l.at l.end l.sum) l.out
 

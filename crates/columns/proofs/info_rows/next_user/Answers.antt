@@ -12,25 +12,18 @@ pub returns-in-Ended : goal.returns-in-Ended
 returns-in-Ended c = record { says = sym (read-ended _ _ (told_is (record { so = c.next_sum32-i.ensures.says }) c.in-Ended.is)); inside = λ h. h }
 
 pub returns-in-Refused-second : goal.returns-in-Refused-second
-returns-in-Refused-second c =
-    let said = (
-      sym (read_more _ _ (told_is (record { so = c.next_sum32-i.ensures.says }) c.in-Value.is) ∙ read-cut _ _ (told_is (record { so = c.next_sum32-u.ensures.says }) c.in-Refused-second.is)),
-      λ h. refl,
-    ) in record { says = said.0; inside = said.1 }
+returns-in-Refused-second c = record { says = sym (read_more _ _ (told_is (record { so = c.next_sum32-i.ensures.says }) c.in-Value.is) ∙ read-cut _ _ (told_is (record { so = c.next_sum32-u.ensures.says }) c.in-Refused-second.is)); inside = λ h. refl }
 
 pub returns-in-Ended-second : goal.returns-in-Ended-second
 returns-in-Ended-second c =
     let g = c.args in
-    let said = (
-      sym (read_more _ _ (told_is (record { so = c.next_sum32-i.ensures.says }) c.in-Value.is) ∙ read-ended _ _ (told_is (record { so = c.next_sum32-u.ensures.says }) c.in-Ended-second.is)),
-      λ h. (uid-read (each-inside g.s.now g.columns h) c.next_sum32-i.ensures.inside).so,
-    ) in record { says = said.0; inside = said.1 }
+    record { says = sym (read_more _ _ (told_is (record { so = c.next_sum32-i.ensures.says }) c.in-Value.is) ∙ read-ended _ _ (told_is (record { so = c.next_sum32-u.ensures.says }) c.in-Ended-second.is)); inside = λ h. (uid-read (each-inside g.s.now g.columns h) c.next_sum32-i.ensures.inside).so }
 
 pub returns-in-Value-second : goal.returns-in-Value-second
 returns-in-Value-second c =
     let g = c.args in
-    let said = (
-      c.next_visible.ensures.says
-          ∙ sym (read_more _ _ (told_is (record { so = c.next_sum32-i.ensures.says }) c.in-Value.is) ∙ read_more _ _ (told_is (record { so = c.next_sum32-u.ensures.says }) c.in-Value-second.is)),
-      λ h. c.next_visible.ensures.inside (user-read (uid-read (each-inside g.s.now g.columns h) c.next_sum32-i.ensures.inside) c.next_sum32-u.ensures.inside).so,
-    ) in record { says = said.0; inside = said.1 }
+    record {
+      says = c.next_visible.ensures.says
+          ∙ sym (read_more _ _ (told_is (record { so = c.next_sum32-i.ensures.says }) c.in-Value.is) ∙ read_more _ _ (told_is (record { so = c.next_sum32-u.ensures.says }) c.in-Value-second.is));
+      inside = λ h. c.next_visible.ensures.inside (user-read (uid-read (each-inside g.s.now g.columns h) c.next_sum32-i.ensures.inside) c.next_sum32-u.ensures.inside).so;
+    }

@@ -13,17 +13,17 @@ returns-in-Refused c = record { says = sym (read-cut _ _ (mapped_end _ (stepped 
 
 pub returns-in-Ended : goal.returns-in-Ended
 returns-in-Ended c =
-    let said = (
-      present-same (returned w32 c.int32.type_inv c.int32.ensures)
-          ∙ sym (read-ended _ _ (mapped_end _ (stepped _ _ c.next_value-v.ensures c.in-Ended.is))),
-      λ h. h,
-    ) in record { says = said.0; inside = said.1 }
+    record {
+      says = present-same (returned w32 c.int32.type_inv c.int32.ensures)
+          ∙ sym (read-ended _ _ (mapped_end _ (stepped _ _ c.next_value-v.ensures c.in-Ended.is)));
+      inside = λ h. h;
+    }
 
 pub returns-in-Value : goal.returns-in-Value
 returns-in-Value c =
     let a = c.args in
-    let said = (
-      present-same (returned w32 c.int32-in-Value.type_inv c.int32-in-Value.ensures)
-          ∙ sym (read_more _ _ (mapped-more _ (stepped _ _ c.next_value-v.ensures c.in-Value.is))),
-      λ h. (visible-read (each-inside a.s.now a.columns h) (behind-inside _ _ c.next_value-v.ensures c.in-Value.is)).so,
-    ) in record { says = said.0; inside = said.1 }
+    record {
+      says = present-same (returned w32 c.int32-in-Value.type_inv c.int32-in-Value.ensures)
+          ∙ sym (read_more _ _ (mapped-more _ (stepped _ _ c.next_value-v.ensures c.in-Value.is)));
+      inside = λ h. (visible-read (each-inside a.s.now a.columns h) (behind-inside _ _ c.next_value-v.ensures c.in-Value.is)).so;
+    }

@@ -19,8 +19,8 @@ returns-then-key-eq0 c = record { says = sym (tag-of-zero c.if-key-eq0.true (ste
 
 pub returns-else-key-eq0 : goal.returns-else-key-eq0
 returns-else-key-eq0 c =
-    let said = (
-      c.dense_value.ensures.says
-          ∙ sym (tag-of-key c.if-key-eq0.false (stepped _ _ c.next_value-r.ensures c.in-Value.is)),
-      λ h. c.dense_value.ensures.inside,
-    ) in record { says = said.0; inside = said.1 }
+    record {
+      says = c.dense_value.ensures.says
+          ∙ sym (tag-of-key c.if-key-eq0.false (stepped _ _ c.next_value-r.ensures c.in-Value.is));
+      inside = λ h. c.dense_value.ensures.inside;
+    }

@@ -20,11 +20,7 @@ pub returns-in-Refused : goal.returns-in-Refused
 returns-in-Refused c = record { says = sym (c.loop-n.invariant.0 ∙ behind-stopped _ (says (tag_said _) c.next_dense_tag-r.ensures.says c.in-Refused.is)); inside = λ h. refl }
 
 pub returns-in-Done : goal.returns-in-Done
-returns-in-Done c =
-    let said = (
-      sym (c.loop-n.invariant.0 ∙ behind-done _ (says (tag_said _) c.next_dense_tag-r.ensures.says c.in-Done.is)),
-      λ h. sym (says (tag_inside _) (c.next_dense_tag-r.ensures.inside (c.loop-n.invariant.1 h)) c.in-Done.is),
-    ) in record { says = said.0; inside = said.1 }
+returns-in-Done c = record { says = sym (c.loop-n.invariant.0 ∙ behind-done _ (says (tag_said _) c.next_dense_tag-r.ensures.says c.in-Done.is)); inside = λ h. sym (says (tag_inside _) (c.next_dense_tag-r.ensures.inside (c.loop-n.invariant.1 h)) c.in-Done.is) }
 
 pub loop-n-smaller : goal.loop-n-smaller
 loop-n-smaller c = pair_shortens _ (says (tag_said _) c.next_dense_tag-r.ensures.says c.in-Pair.is)

@@ -9,9 +9,9 @@ use Rattle.columns.proofs.sums.next_sum32.Goals as goal
 
 pub returns : goal.returns
 returns c =
-    let said = (
-      (summed 32 _ (typed (zigzag 32) (reads _ _ c.next_in-r.ensures) refl)
+    record {
+      says = (summed 32 _ (typed (zigzag 32) (reads _ _ c.next_in-r.ensures) refl)
           (held-sum w32 c.args.state.sum c.struct_told-1.given.1.0.1 c.zigzag_i32.type_inv c.zigzag_i32.ensures c.wrapping_add_i32.type_inv c.wrapping_add_i32.ensures)
-          ).so,
-      read-inside _ _ c.next_in-r.ensures,
-    ) in record { says = said.0; inside = said.1 }
+          ).so;
+      inside = read-inside _ _ c.next_in-r.ensures;
+    }

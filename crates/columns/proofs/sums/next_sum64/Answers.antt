@@ -9,9 +9,9 @@ use Rattle.columns.proofs.sums.next_sum64.Goals as goal
 
 pub returns : goal.returns
 returns c =
-    let said = (
-      (summed 64 _ (typed (zigzag 64) (reads _ _ c.next_in-r.ensures) refl)
+    record {
+      says = (summed 64 _ (typed (zigzag 64) (reads _ _ c.next_in-r.ensures) refl)
           (held-sum w64 c.args.state.sum c.struct_told-1.given.1.0.1 c.zigzag_i64.type_inv c.zigzag_i64.ensures c.wrapping_add_i64.type_inv c.wrapping_add_i64.ensures)
-          ).so,
-      read-inside _ _ c.next_in-r.ensures,
-    ) in record { says = said.0; inside = said.1 }
+          ).so;
+      inside = read-inside _ _ c.next_in-r.ensures;
+    }

@@ -9,11 +9,11 @@ use Rattle.columns.proofs.zip.next_member.Goals as goal
 
 pub returns : goal.returns
 returns c =
-    let said = (
-      (zipped
+    record {
+      says = (zipped
           (typed (twos 32) (reads _ _ c.next_in-r.ensures) (returned w32 c.int32.type_inv c.int32.ensures))
           (zipped (sum_told _ _ c.next_sum64-m.result c.next_sum64-m.ensures.says) (typed (twos 32) (reads _ _ c.next_in-t.ensures) (returned w32 c.int32-2.type_inv c.int32-2.ensures)) c.in_step.ensures)
           c.in_step-2.ensures
-          ).so,
-      also-true (read-inside _ _ c.next_in-r.ensures) (also-true c.next_sum64-m.ensures.inside (read-inside _ _ c.next_in-t.ensures)),
-    ) in record { says = said.0; inside = said.1 }
+          ).so;
+      inside = also-true (read-inside _ _ c.next_in-r.ensures) (also-true c.next_sum64-m.ensures.inside (read-inside _ _ c.next_in-t.ensures));
+    }

@@ -6,11 +6,11 @@ use Rattle.columns.proofs.zip.next_row.Goals as goal
 
 pub returns : goal.returns
 returns c =
-    let said = (
-      (zipped
+    record {
+      says = (zipped
           (sum_told _ _ c.next_sum64-i.result c.next_sum64-i.ensures.says)
           (zipped (sum_told _ _ c.next_sum64-y.result c.next_sum64-y.ensures.says) (sum_told _ _ c.next_sum64-x.result c.next_sum64-x.ensures.says) c.in_step.ensures)
           c.in_step-2.ensures
-          ).so,
-      also-true c.next_sum64-i.ensures.inside (also-true c.next_sum64-y.ensures.inside c.next_sum64-x.ensures.inside),
-    ) in record { says = said.0; inside = said.1 }
+          ).so;
+      inside = also-true c.next_sum64-i.ensures.inside (also-true c.next_sum64-y.ensures.inside c.next_sum64-x.ensures.inside);
+    }

@@ -6,8 +6,4 @@ use Rattle.columns.proofs.laws.Zip.{reads, typed, zipped}
 use Rattle.columns.proofs.zip.next_tag.Goals as goal
 
 pub returns : goal.returns
-returns c =
-    let said = (
-      (zipped (typed _ (reads _ _ c.next_in-k.ensures) refl) (typed _ (reads _ _ c.next_in-v.ensures) refl) c.in_step.ensures).so,
-      also-true (read-inside _ _ c.next_in-k.ensures) (read-inside _ _ c.next_in-v.ensures),
-    ) in record { says = said.0; inside = said.1 }
+returns c = record { says = (zipped (typed _ (reads _ _ c.next_in-k.ensures) refl) (typed _ (reads _ _ c.next_in-v.ensures) refl) c.in_step.ensures).so; inside = also-true (read-inside _ _ c.next_in-k.ensures) (read-inside _ _ c.next_in-v.ensures) }

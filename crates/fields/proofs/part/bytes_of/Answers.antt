@@ -33,9 +33,9 @@ slice_bounds-result-end-2 c =
     leb-true _ _ (confirmed c.part_fits.ensures c.if-not-part_fits.false-raw) in
     omega (arith, within)
 
-pub returns-then-not-part : goal.returns
+pub returns : goal.returns
 unfolding bytes_of
-returns-then-not-part c =
+returns c =
     let a = c.args in
     let present = not-false a.part.present c.if-not-part.false in
     let inside = confirmed c.part_fits.ensures c.if-not-part_fits.false-raw in

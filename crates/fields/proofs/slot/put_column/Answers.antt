@@ -12,6 +12,6 @@ pub returns-then-part : goal.returns-then-part
 unfolding put column_part each
 returns-then-part c = simp (ne_eqb _ _ c.if-len-eq0.false, c.if-part.true)
 
-pub returns-then-len-eq0 : goal.returns
+pub returns : goal.returns
 unfolding put column_part each
-returns-then-len-eq0 c = simp (ne_eqb _ _ c.if-len-eq0.false, c.if-part.false)
+returns c = simp (ne_eqb _ _ c.if-len-eq0.false, c.if-part.false)

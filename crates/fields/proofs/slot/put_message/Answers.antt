@@ -12,6 +12,6 @@ pub returns-then-len-eq0 : goal.returns-then-len-eq0
 unfolding put info_part each
 returns-then-len-eq0 c = simp (ne_eqb _ _ c.if-part-eq0.false, eq-eqb _ _ c.if-len-eq0.true)
 
-pub returns-then-part-eq0 : goal.returns
+pub returns : goal.returns
 unfolding put info_part each
-returns-then-part-eq0 c = simp (ne_eqb _ _ c.if-part-eq0.false, ne_eqb _ _ c.if-len-eq0.false)
+returns c = simp (ne_eqb _ _ c.if-part-eq0.false, ne_eqb _ _ c.if-len-eq0.false)

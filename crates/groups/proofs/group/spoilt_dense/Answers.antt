@@ -8,5 +8,5 @@ returns-then-tag-ne-DENSE c = simp (not-dense _ c.if-tag-ne-DENSE.true)
 pub returns-then-found : goal.returns-then-found
 returns-then-found c = rw (c.if-tag-ne-DENSE.false, c.if-found.true)
 
-pub returns-then-tag-ne-DENSE : goal.returns
-returns-then-tag-ne-DENSE c = rw (c.if-tag-ne-DENSE.false, c.if-found.false)
+pub returns : goal.returns
+returns c = rw (c.if-tag-ne-DENSE.false, c.if-found.false)

@@ -56,8 +56,8 @@ returns-then-p c =
     confirmed c.part_fits.ensures c.if-not-part_fits.false-raw in
     step_message _ _ fits c.first_part-p.ensures (omega arith) c.part_at-part.ensures c.if-p.true
 
-pub returns-then-not-part_fits : goal.returns
-returns-then-not-part_fits c =
+pub returns : goal.returns
+returns c =
     let fits : let a = c.args in leb (a.place.start + a.place.len) (length a.buffer.now) ≡ true =
     confirmed c.part_fits.ensures c.if-not-part_fits.false-raw in
     step_ended _ _ fits c.first_part-p.ensures (omega arith) c.if-p.false

@@ -12,5 +12,5 @@ returns-then-buffer-end c = simp (lt-ltb _ _ c.if-end-at.false, lt-leb _ _ c.if-
 pub bounds-buffer-at : goal.bounds-buffer-at
 bounds-buffer-at c = omega (arith, c.if-end-at.false, c.if-buffer-end.false)
 
-pub returns-then-end-at : goal.returns
-returns-then-end-at c = simp (lt-ltb _ _ c.if-end-at.false, le-leb _ _ c.if-buffer-end.false)
+pub returns : goal.returns
+returns c = simp (lt-ltb _ _ c.if-end-at.false, le-leb _ _ c.if-buffer-end.false)

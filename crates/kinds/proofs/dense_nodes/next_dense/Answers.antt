@@ -18,18 +18,18 @@ returns-in-Ended c = record { says = sym (nodes-end none _ (told_is (record { so
 
 pub returns-in-Refused-b : goal.returns-in-Refused-b
 returns-in-Refused-b c =
-    let said = (
-      sym
+    record {
+      says = sym
           (nodes-more none _ (told_is (record { so = c.next_row-r.ensures.says }) c.in-Value.is)
-          ∙ pairs-refused _ _ (says (behind_of _) c.pass_node-b.ensures.says c.in-Refused-b.is)),
-      refl,
-    ) in record { says = said.0; inside = said.1 }
+          ∙ pairs-refused _ _ (says (behind_of _) c.pass_node-b.ensures.says c.in-Refused-b.is));
+      inside = refl;
+    }
 
 pub returns-in-Column : goal.returns-in-Column
 returns-in-Column c =
-    let said = (
-      sym
+    record {
+      says = sym
           (nodes-more none _ (told_is (record { so = c.next_row-r.ensures.says }) c.in-Value.is)
-          ∙ pairs-kept _ _ (says (behind_of _) c.pass_node-b.ensures.says c.in-Column.is)),
-      also-true c.next_row-r.ensures.inside (sym (ap (behind_inside _) c.in-Column.is) ∙ c.pass_node-b.ensures.inside),
-    ) in record { says = said.0; inside = said.1 }
+          ∙ pairs-kept _ _ (says (behind_of _) c.pass_node-b.ensures.says c.in-Column.is));
+      inside = also-true c.next_row-r.ensures.inside (sym (ap (behind_inside _) c.in-Column.is) ∙ c.pass_node-b.ensures.inside);
+    }

@@ -32,21 +32,21 @@ returns-in-Refused-i-2 c =
 pub returns-in-Refused-b : goal.returns-in-Refused-b
 returns-in-Refused-b c =
     let a = c.args in
-    let said = (
-      sym
+    record {
+      says = sym
           (full-pairs-refused (infos_ahead a.buffer.now a.infos) _ (told_is (record { so = c.next_row-r.ensures.says }) c.in-Value.is) (says (row_read _) c.read_info-i-in-Value.ensures.says c.in-Read-i.is)
-          (says (behind_of _) c.pass_node-b.ensures.says c.in-Refused-b.is)),
-      λ h. refl,
-    ) in record { says = said.0; inside = said.1 }
+          (says (behind_of _) c.pass_node-b.ensures.says c.in-Refused-b.is));
+      inside = λ h. refl;
+    }
 
 pub returns-in-Column : goal.returns-in-Column
 returns-in-Column c =
     let a = c.args in
-    let said = (
-      sym
+    record {
+      says = sym
           (full-node (infos_ahead a.buffer.now a.infos) _ (told_is (record { so = c.next_row-r.ensures.says }) c.in-Value.is) (says (row_read _) c.read_info-i-in-Value.ensures.says c.in-Read-i.is)
-          (says (behind_of _) c.pass_node-b.ensures.says c.in-Column.is)),
-      λ h.
+          (says (behind_of _) c.pass_node-b.ensures.says c.in-Column.is));
+      inside = λ h.
           also-true (also-true c.next_row-r.ensures.inside (sym (ap (behind_inside _) c.in-Column.is) ∙ c.pass_node-b.ensures.inside))
-          (sym (ap (row_inside _) c.in-Read-i.is) ∙ c.read_info-i-in-Value.ensures.inside h),
-    ) in record { says = said.0; inside = said.1 }
+          (sym (ap (row_inside _) c.in-Read-i.is) ∙ c.read_info-i-in-Value.ensures.inside h);
+    }

@@ -16,8 +16,8 @@ returns-then-has_no_pairs c =
     let none = sym c.has_no_pairs.ensures ∙ c.if-has_no_pairs.true in
     record { says = byte_passed a.buffer.now a.keyvals none; inside = byte_behind a.buffer.now a.keyvals none }
 
-pub returns-then-has_no_pairs : goal.returns
-returns-then-has_no_pairs c =
+pub returns : goal.returns
+returns c =
     let a = c.args in
     let p = c.pass_pairs in
     record { says = p.ensures.0; inside = passed-inside a.buffer.now a.keyvals p.result p.ensures.0 p.ensures.1 }

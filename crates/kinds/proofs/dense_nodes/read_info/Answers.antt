@@ -19,8 +19,8 @@ returns-in-Missing c = record { says = sym (ap read_row (says (info_said _) c.ne
 pub returns-in-Row : goal.returns-in-Row
 returns-in-Row c =
     let n = c.in-Row.next in
-    let said = (
-      info-held (infos_ahead _ n) (returned w32 c.in-Row.known_told-in-Row-1-own.given.0.1 refl) (returned w64 c.struct_told-1.given.1.0.1 refl) (returned w64 c.struct_told-in-Row-1.given.1.0.1 refl) (returned w32 c.struct_told-in-Row-2-1.given.1.0.1 refl) (returned w32 c.struct_told-in-Row-3-1.given.1.0.1 refl)
-          ∙ sym (ap read_row (says (info_said _) c.next_info-i.ensures.says c.in-Row.is)),
-      λ h. sym (ap (info_inside _) c.in-Row.is) ∙ c.next_info-i.ensures.inside h,
-    ) in record { says = said.0; inside = said.1 }
+    record {
+      says = info-held (infos_ahead _ n) (returned w32 c.in-Row.known_told-in-Row-1-own.given.0.1 refl) (returned w64 c.struct_told-1.given.1.0.1 refl) (returned w64 c.struct_told-in-Row-1.given.1.0.1 refl) (returned w32 c.struct_told-in-Row-2-1.given.1.0.1 refl) (returned w32 c.struct_told-in-Row-3-1.given.1.0.1 refl)
+          ∙ sym (ap read_row (says (info_said _) c.next_info-i.ensures.says c.in-Row.is));
+      inside = λ h. sym (ap (info_inside _) c.in-Row.is) ∙ c.next_info-i.ensures.inside h;
+    }

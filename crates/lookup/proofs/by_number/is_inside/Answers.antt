@@ -10,5 +10,5 @@ returns-then-n-block c = simp (lt-leb _ _ c.if-n-block.true)
 pub returns-then-not-table_fits : goal.returns-then-not-table_fits
 returns-then-not-table_fits c = simp (le-leb _ _ c.if-n-block.false, refuted c.table_fits.ensures c.if-not-table_fits.true-raw)
 
-pub returns-then-n-block : goal.returns
-returns-then-n-block c = simp (le-leb _ _ c.if-n-block.false, confirmed c.table_fits.ensures c.if-not-table_fits.false-raw) c.table_fits-2.ensures
+pub returns : goal.returns
+returns c = simp (le-leb _ _ c.if-n-block.false, confirmed c.table_fits.ensures c.if-not-table_fits.false-raw) c.table_fits-2.ensures

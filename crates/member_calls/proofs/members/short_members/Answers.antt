@@ -41,7 +41,7 @@ pub loop-count-preserved : goal.loop-count-preserved
 loop-count-preserved c =
     let summed_word : to_z w64 (of_z w64 c.wrapping_add_i64-sum.result) ≡ wrapping_add 64 (to_z w64 c.loop-count.sum-bits) (zigzag 64 (c.wide_value-id.result / 16)) =
     let z = c.zigzag_i64 in
-    returned w64 c.wrapping_add_i64-sum.type_inv (c.wrapping_add_i64-sum.ensures ∙ ap (wrapping_add 64 (to_z w64 c.loop-count.sum-bits)) (returned w64 z.type-inv z.ensures)) in
+    returned w64 c.wrapping_add_i64-sum.type_inv (c.wrapping_add_i64-sum.ensures ∙ ap (wrapping_add 64 (to_z w64 c.loop-count.sum-bits)) (returned w64 z.type_inv z.ensures)) in
     let role = c.short_value-role in
     let id = c.wide_value-id in
     let kind = c.short_value-kind in (

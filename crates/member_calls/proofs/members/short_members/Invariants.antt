@@ -27,6 +27,10 @@ use Rattle.member_calls.proofs.laws.Members.{item-size}
 use Rattle.member_calls.proofs.laws.ShortMembers.{member-put}
 use Rattle.member_calls.proofs.members.short_members.Given as goal
 
+abbrev state_at : Column → Column → Column → ℕ → RelMemberIter
+state_at roles memids types sum =
+    iter.Members (record { roles = roles; memids = record { column = memids; sum = to_z w64 sum }; types = types })
+
 -- of every record that is inside: the loop has no use for the one that was given, so the invariant does not name it
 abbrev pub invariant-loop-count : goal.invariant-loop-count
 invariant-loop-count l = (length l.out ≡ length l.initial.out)

@@ -20,5 +20,5 @@ returns-in-Refused c = sym (c.loop-i.invariant ∙ node-refused _ _ _ (omega ari
 pub loop-i-preserved : goal.loop-i-preserved
 loop-i-preserved c = c.loop-i.invariant ∙ node-passed _ _ _ (omega arith) (says (behind_of _) c.pass_pairs-r.ensures.says c.in-Column.is)
 
-pub returns-in-Refused : goal.returns
-returns-in-Refused c = sym (c.loop-i.invariant ∙ nodes-passed _ _ _ (omega arith))
+pub returns : goal.returns
+returns c = sym (c.loop-i.invariant ∙ nodes-passed _ _ _ (omega arith))

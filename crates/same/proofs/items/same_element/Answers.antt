@@ -18,5 +18,5 @@ heads c m n =
 pub returns-then-not-same_head : goal.returns-then-not-same_head
 returns-then-not-same_head c m n = test_stops _ (heads c.before m n) c.if-not-same_head.true-raw
 
-pub returns-then-not-same_head : goal.returns
-returns-then-not-same_head c m n = test_goes-on (heads c.before.before m n) c.if-not-same_head.false-raw c.same_item.ensures
+pub returns : goal.returns
+returns c m n = test_goes-on (heads c.before.before m n) c.if-not-same_head.false-raw c.same_item.ensures

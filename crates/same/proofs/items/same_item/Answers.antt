@@ -38,8 +38,8 @@ returns-in_default-references c =
     c.same_refs-references.ensures ∙ λ i. same_stream (same_ref a.first.now a.a a.second.now a.b) (x i) (y i) in
     goes_on tags c.in-Same.is (stops c.same_refs-references.result _ c.in_default-references.in_default-references-own.keys2 references)
 
-pub returns-in_default : goal.returns
-returns-in_default c =
+pub returns : goal.returns
+returns c =
     let tags : let a = c.args in
     compared_of c.same_tags-tags.result ≡ same_stream (same_tag a.first.now a.a a.second.now a.b) (tags_of a.first.now a.a (item_of a.first.now a.e)) (tags_of a.second.now a.b (item_of a.second.now a.f)) =
     let a = c.args in

@@ -23,8 +23,8 @@ returns-in_default c =
     c.same_role-roles.ensures ∙ λ i. same_roles (text_of a.first.now (role_at a.first.now a.a (x i))) (text_of a.second.now (role_at a.second.now a.b (y i))) in
     stops c.same_role-roles.result _ c.in_default.in_default-own.keys2 roles ∙ roles-first _ _ _
 
-pub returns-in_default : goal.returns
-returns-in_default c =
+pub returns : goal.returns
+returns c =
     let roles : let a = c.args in
     compared_of c.same_role-roles.result ≡ same_roles (text_of a.first.now (role_at a.first.now a.a a.x.role)) (text_of a.second.now (role_at a.second.now a.b a.y.role)) =
     let a = c.args in

@@ -19,8 +19,8 @@ returns-then-not-same_i32 c =
     let a = c.args in
     equal _ _ c.if-p-q.false (test_fails _ kinds c.if-not-same_i32.true-raw) ∙ keys-same a.x a.y c.key_of-p.ensures c.key_of-q.ensures
 
-pub returns-then-p-q : goal.returns
-returns-then-p-q c =
+pub returns : goal.returns
+returns c =
     let kinds : c.same_i32.result ≡ same_number c.key_of-p.result.kind c.key_of-q.result.kind =
     held_same w32 c.key_of-p.result.kind c.key_of-q.result.kind c.struct_told-1.given.1.0.1 c.struct_told-2-1.given.1.0.1 c.same_i32.ensures in
     let a = c.args in

@@ -36,8 +36,8 @@ returns-then-not-same_i64-2 c s t =
     held_same w64 p.a.lonoffset p.b.lonoffset c.struct_told-5-1.given.1.1.1.1.1.1.1.1.0.1 c.struct_told-6-1.given.1.1.1.1.1.1.1.1.0.1 c.same_i64-2.ensures in
     test_holds granularities c.if-not-same_i32.false-raw (test_holds latoffsets c.if-not-same_i64.false-raw (test_fails _ lonoffsets c.if-not-same_i64-2.true-raw))
 
-pub returns-then-not-same_i32 : goal.returns
-returns-then-not-same_i32 c s t =
+pub returns : goal.returns
+returns c s t =
     let granularities : let p = c.args in c.same_i32.result ≡ same_number p.a.granularity p.b.granularity =
     let p = c.args in
     held_same w32 p.a.granularity p.b.granularity c.struct_told-1.given.1.1.1.1.1.0.1 c.struct_told-2-1.given.1.1.1.1.1.0.1 c.same_i32.ensures in

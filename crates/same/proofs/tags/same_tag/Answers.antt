@@ -10,7 +10,7 @@ returns-then-not-same_text c =
     let p = c.requires in
     test_fails _ (c.same_text.ensures ∙ λ i. same_text (p.0.key i) (p.1.key i)) c.if-not-same_text.true-raw
 
-pub returns-then-not-same_text : goal.returns
-returns-then-not-same_text c =
+pub returns : goal.returns
+returns c =
     let p = c.requires in
     test_holds (c.same_text.ensures ∙ λ i. same_text (p.0.key i) (p.1.key i)) c.if-not-same_text.false-raw (c.same_text-2.ensures ∙ λ i. same_text (p.0.value i) (p.1.value i))

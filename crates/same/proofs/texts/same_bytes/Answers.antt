@@ -15,8 +15,8 @@ returns-then-a-i c = sym (matched_not c.loop-i.invariant (omega arith) (omega ar
 pub loop-i-preserved : goal.loop-i-preserved
 loop-i-preserved c = matched_more c.loop-i.invariant (omega arith) (omega arith) c.if-a-i.false
 
-pub returns-then-a-b : goal.returns
-returns-then-a-b c = sym (matched_all c.loop-i.invariant (omega arith) (omega arith))
+pub returns : goal.returns
+returns c = sym (matched_all c.loop-i.invariant (omega arith) (omega arith))
 
 pub loop-i-init : goal.loop-i-init
 loop-i-init c = matched_none _ _

@@ -32,8 +32,8 @@ same_element-requires c =
       subst (λ (y : Said). SaidInside c.args.second.now c.args.b y) c.in-Element-y.is c.requires.1,
     )
 
-pub returns-in_default : goal.returns
-returns-in_default c =
+pub returns : goal.returns
+returns c =
     let a = c.args in
     let same = same_element a.first.now a.a a.second.now a.b in
     c.same_element.ensures c.in-Element.message c.in-Element-y.message

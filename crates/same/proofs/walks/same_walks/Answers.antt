@@ -10,8 +10,8 @@ returns-then-not-same_record c =
     let a = c.args in
     test_stops _ (c.same_record.ensures a.first.now a.second.now) c.if-not-same_record.true-raw
 
-pub returns-then-not-same_record : goal.returns
+pub returns : goal.returns
 unfolding same_walks
-returns-then-not-same_record c =
+returns c =
     let a = c.args in
     test_goes-on (c.same_record.ensures a.first.now a.second.now) c.if-not-same_record.false-raw c.same_elements.ensures

@@ -25,19 +25,19 @@ returns c = let r0 = c.read_u64 in
     let r11 = c.read_u64-12 in
     let r12 = c.read_u64-13 in
     let a = c.args in
-    let said = (
-      c.put_numbers.ensures
+    record {
+      after = c.put_numbers.ensures
           ∙ (λ i.
           filled a.slot.now
           (2 ∷ 0 ∷ r0.ensures i ∷ r1.ensures i ∷ r2.ensures i ∷ r3.ensures i ∷ r4.ensures i ∷ (r5.ensures i + a.id % 16) ∷ r6.ensures i ∷ a.ids ∷ (r7.ensures i + a.lat % 16) ∷ r8.ensures i ∷ a.lats
-          ∷ (r9.ensures i + a.lon % 16) ∷ r10.ensures i ∷ a.lons ∷ (r11.ensures i + 1) ∷ r12.ensures i ∷ [])),
-      record {
-        of = record { group = omega (arith, r0.type-inv, r0.ensures); start = omega (arith, r1.type-inv, r1.ensures); len = omega (arith, r2.type-inv, r2.ensures) };
-        start = omega (arith, r3.type-inv, r3.ensures);
-        len = omega (arith, r4.type-inv, r4.ensures);
-        ids = omega (arith, r6.type-inv, r6.ensures);
-        lats = omega (arith, r8.type-inv, r8.ensures);
-        lons = omega (arith, r10.type-inv, r10.ensures);
-        keyvals = omega (arith, r12.type-inv, r12.ensures);
-      },
-    ) in record { after = said.0; held = said.1 }
+          ∷ (r9.ensures i + a.lon % 16) ∷ r10.ensures i ∷ a.lons ∷ (r11.ensures i + 1) ∷ r12.ensures i ∷ []));
+      held = record {
+        of = record { group = omega (arith, r0.type_inv, r0.ensures); start = omega (arith, r1.type_inv, r1.ensures); len = omega (arith, r2.type_inv, r2.ensures) };
+        start = omega (arith, r3.type_inv, r3.ensures);
+        len = omega (arith, r4.type_inv, r4.ensures);
+        ids = omega (arith, r6.type_inv, r6.ensures);
+        lats = omega (arith, r8.type_inv, r8.ensures);
+        lons = omega (arith, r10.type_inv, r10.ensures);
+        keyvals = omega (arith, r12.type_inv, r12.ensures);
+      };
+    }

@@ -29,5 +29,5 @@ fill-requires c =
     leb-true _ _ (confirmed c.part_fits.ensures c.if-not-part_fits.false-raw) in
     (omega (arith, within), c.requires)
 
-pub returns-then-not-part_fits : goal.returns
-returns-then-not-part_fits c = fill_inside _ _ _ _ (confirmed c.part_fits.ensures c.if-not-part_fits.false-raw) c.fill.ensures
+pub returns : goal.returns
+returns c = fill_inside _ _ _ _ (confirmed c.part_fits.ensures c.if-not-part_fits.false-raw) c.fill.ensures

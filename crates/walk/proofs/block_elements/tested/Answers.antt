@@ -14,20 +14,20 @@ returns-then-not-is_inside c =
 pub returns-then-not-state_inside : goal.returns-then-not-state_inside
 returns-then-not-state_inside c =
     let a = c.args in
-    let said = (
-      ap (element_said _ _) c.refuse-then-not-state_inside.ensures
-          ∙ state_outside a.buffer.now a.block a.state (confirmed c.is_inside.ensures c.if-not-is_inside.false-raw) (refuted c.state_inside.ensures c.if-not-state_inside.true-raw),
-      ap element_behind c.refuse-then-not-state_inside.ensures,
-    ) in record { says = said.0; behind = said.1 }
+    record {
+      says = ap (element_said _ _) c.refuse-then-not-state_inside.ensures
+          ∙ state_outside a.buffer.now a.block a.state (confirmed c.is_inside.ensures c.if-not-is_inside.false-raw) (refuted c.state_inside.ensures c.if-not-state_inside.true-raw);
+      behind = ap element_behind c.refuse-then-not-state_inside.ensures;
+    }
 
 pub advance-requires : goal.advance-requires
 advance-requires c = (confirmed c.is_inside.ensures c.if-not-is_inside.false-raw, confirmed c.state_inside.ensures c.if-not-state_inside.false-raw)
 
-pub returns-then-not-is_inside : goal.returns
-returns-then-not-is_inside c =
+pub returns : goal.returns
+returns c =
     let a = c.args in
-    let said = (
-      c.advance.ensures.says
-          ∙ both-inside a.buffer.now a.block a.state (confirmed c.is_inside.ensures c.if-not-is_inside.false-raw) (confirmed c.state_inside.ensures c.if-not-state_inside.false-raw),
-      c.advance.ensures.behind,
-    ) in record { says = said.0; behind = said.1 }
+    record {
+      says = c.advance.ensures.says
+          ∙ both-inside a.buffer.now a.block a.state (confirmed c.is_inside.ensures c.if-not-is_inside.false-raw) (confirmed c.state_inside.ensures c.if-not-state_inside.false-raw);
+      behind = c.advance.ensures.behind;
+    }

@@ -15,7 +15,7 @@ returns-then-not-are_rows_inside c =
     first_holds (confirmed c.group_inside.ensures c.if-not-group_inside.false-raw)
     (first_holds (confirmed c.part_fits.ensures c.if-not-part_fits.false-raw) (first-fails _ (refuted c.are_rows_inside.ensures c.if-not-are_rows_inside.true-raw)))
 
-pub returns-then-not-group_inside : goal.returns
-returns-then-not-group_inside c =
+pub returns : goal.returns
+returns c =
     first_holds (confirmed c.group_inside.ensures c.if-not-group_inside.false-raw)
     (first_holds (confirmed c.part_fits.ensures c.if-not-part_fits.false-raw) (first_holds (confirmed c.are_rows_inside.ensures c.if-not-are_rows_inside.false-raw) c.is_column_inside.ensures))

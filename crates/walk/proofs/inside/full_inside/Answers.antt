@@ -7,5 +7,5 @@ use Rattle.walk.proofs.inside.full_inside.Goals as goal
 pub returns-then-not-dense_inside : goal.returns-then-not-dense_inside
 returns-then-not-dense_inside c = first-fails _ (refuted c.dense_inside.ensures c.if-not-dense_inside.true-raw)
 
-pub returns-then-not-dense_inside : goal.returns
-returns-then-not-dense_inside c = first_holds (confirmed c.dense_inside.ensures c.if-not-dense_inside.false-raw) c.are_infos_inside.ensures
+pub returns : goal.returns
+returns c = first_holds (confirmed c.dense_inside.ensures c.if-not-dense_inside.false-raw) c.are_infos_inside.ensures

@@ -7,5 +7,5 @@ use Rattle.walk.proofs.inside.group_inside.Goals as goal
 pub returns-then-block-of : goal.returns-then-block-of
 returns-then-block-of c = first-fails _ (le-ltb _ _ c.if-block-of.true)
 
-pub returns-then-block-of : goal.returns
-returns-then-block-of c = first_holds (lt-ltb _ _ c.if-block-of.false) c.part_fits.ensures
+pub returns : goal.returns
+returns c = first_holds (lt-ltb _ _ c.if-block-of.false) c.part_fits.ensures

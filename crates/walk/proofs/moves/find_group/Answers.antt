@@ -28,7 +28,4 @@ pub returns-in-Found : goal.returns-in-Found
 returns-in-Found c =
     let a = c.args in
     let here = sym c.group-g.ensures.answer ∙ c.in-Range.is in
-    let said = (
-      λ full. sym (passed a.buffer.now a.block full a.number c.if-block-number.false here (says found_dense c.dense-d.ensures c.in-Found.is)),
-      also-true (range-stands a.buffer.now a.block false a.number c.if-block-number.false here) (eq-eqb a.number a.number refl),
-    ) in record { says = said.0; stands = said.1 }
+    record { says = λ full. sym (passed a.buffer.now a.block full a.number c.if-block-number.false here (says found_dense c.dense-d.ensures c.in-Found.is)); stands = also-true (range-stands a.buffer.now a.block false a.number c.if-block-number.false here) (eq-eqb a.number a.number refl) }

@@ -19,12 +19,9 @@ returns c = let i = c.args.i in
       user = sum32-told uids.1.0.1.1;
       visible = column-told uids.1.1.0;
     } in 
-    let said = (
-      rw (
+    record { numbers = rw (
         as_word w64 i.timestamp.sum held.timestamp.sum c.bits_i64.ensures,
         as_word w64 i.changeset.sum held.changeset.sum c.bits_i64-2.ensures,
         as_word w32 i.uid.sum held.uid.sum c.bits_i32.ensures,
         as_word w32 i.user.sum held.user.sum c.bits_i32-2.ensures,
-      ),
-      held,
-    ) in record { numbers = said.0; held = said.1; }
+      ); held = held; }

@@ -22,11 +22,11 @@ returns c = let d = c.args.d in
       lons = sum_told rows.1.1.0.1.1;
       keyvals = column-told columns.1.0;
     } in
-    let said = (
-      rw (
+    record {
+      numbers = rw (
         as_word w64 d.columns.rows.ids.sum held.ids.sum c.bits_i64.ensures,
         as_word w64 d.columns.rows.lats.sum held.lats.sum c.bits_i64-2.ensures,
         as_word w64 d.columns.rows.lons.sum held.lons.sum c.bits_i64-3.ensures,
-      ),
-      held,
-    ) in record { numbers = said.0; held = said.1 }
+      );
+      held = held;
+    }

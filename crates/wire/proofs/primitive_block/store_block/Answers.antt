@@ -17,32 +17,16 @@ unfolding store put each
 returns-in-18 c = record { stores = (λ slots e. rw (e, c.in-18.is)); counts = search rules }
 
 pub returns-then-is_int32 : goal.returns-then-is_int32
-returns-then-is_int32 c =
-    let said = (
-      (λ slots e. rw e (int32-kept block_fields primitive_block slots 17 _ _ _ _ refl c.in-136.is (sym c.is_int32.ensures ∙ c.if-is_int32.true))),
-      search rules,
-    ) in record { stores = said.0; counts = said.1 }
+returns-then-is_int32 c = record { stores = (λ slots e. rw e (int32-kept block_fields primitive_block slots 17 _ _ _ _ refl c.in-136.is (sym c.is_int32.ensures ∙ c.if-is_int32.true))); counts = search rules }
 
 pub returns-else-is_int32 : goal.returns-else-is_int32
-returns-else-is_int32 c =
-    let said = (
-      (λ slots e. int32-refused block_fields primitive_block slots 17 _ _ _ _ refl c.in-136.is (sym c.is_int32.ensures ∙ c.if-is_int32.false)),
-      search rules,
-    ) in record { stores = said.0; counts = said.1 }
+returns-else-is_int32 c = record { stores = (λ slots e. int32-refused block_fields primitive_block slots 17 _ _ _ _ refl c.in-136.is (sym c.is_int32.ensures ∙ c.if-is_int32.false)); counts = search rules }
 
 pub returns-then-is_int32-2 : goal.returns-then-is_int32-2
-returns-then-is_int32-2 c =
-    let said = (
-      (λ slots e. rw e (int32-kept block_fields primitive_block slots 18 _ _ _ _ refl c.in-144.is (sym c.is_int32-in-144.ensures ∙ c.if-is_int32-2.true))),
-      search rules,
-    ) in record { stores = said.0; counts = said.1 }
+returns-then-is_int32-2 c = record { stores = (λ slots e. rw e (int32-kept block_fields primitive_block slots 18 _ _ _ _ refl c.in-144.is (sym c.is_int32-in-144.ensures ∙ c.if-is_int32-2.true))); counts = search rules }
 
 pub returns-else-is_int32-2 : goal.returns-else-is_int32-2
-returns-else-is_int32-2 c =
-    let said = (
-      (λ slots e. int32-refused block_fields primitive_block slots 18 _ _ _ _ refl c.in-144.is (sym c.is_int32-in-144.ensures ∙ c.if-is_int32-2.false)),
-      search rules,
-    ) in record { stores = said.0; counts = said.1 }
+returns-else-is_int32-2 c = record { stores = (λ slots e. int32-refused block_fields primitive_block slots 18 _ _ _ _ refl c.in-144.is (sym c.is_int32-in-144.ensures ∙ c.if-is_int32-2.false)); counts = search rules }
 
 pub returns-in-152 : goal.returns-in-152
 unfolding store put each

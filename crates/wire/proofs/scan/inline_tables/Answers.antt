@@ -37,10 +37,7 @@ returns-then-has_room c =
     leb-true _ _ (sym c.has_room.ensures ∙ c.if-has_room.true) in
     let r = c.requires in
     let h = room c.before.before.before.before.before.before.before.before.before.before in
-    let said = (
-      ap kept c.record_of.ensures ∙ sym (ap (each meta) (with-room r h)),
-      both-written r h _ c.write_entries.ensures _ c.write_entries-then-has_room.ensures ∙ sym (ap (after_scan _ _) (with-room r h)),
-    ) in record { answer = said.0; after = said.1 }
+    record { answer = ap kept c.record_of.ensures ∙ sym (ap (each meta) (with-room r h)); after = both-written r h _ c.write_entries.ensures _ c.write_entries-then-has_room.ensures ∙ sym (ap (after_scan _ _) (with-room r h)) }
 
 pub returns-else-has_room : goal.returns-else-has_room
 unfolding each
