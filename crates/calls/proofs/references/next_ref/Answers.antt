@@ -8,7 +8,7 @@ use Rattle.calls.proofs.references.next_ref.Goals as goal
 pub returns-then-put_short_ref : goal.returns-then-put_short_ref
 returns-then-put_short_ref c =
     let p = served c.put_short_ref.ensures c.if-put_short_ref.true in
-    let said = (p.tells-code, (p.leaves-slot, own-items p.puts)) in record { code = said.0; next = said.1; after = said.2 }
+    record { code = p.tells-code; next = p.leaves-slot; after = own-items p.puts }
 
 pub returns : goal.returns
 returns c =
@@ -16,8 +16,8 @@ returns c =
     let same = not-served c.put_short_ref.ensures c.if-put_short_ref.false in
     let p =
     unwritten (λ slot out. refs_call a.buffer.now slot (one_room 8 out)) same.0 same.1
-    (with-room (refs_call a.buffer.now c.put_short_ref.new.1.0) c.one_room-most.ensures.is c.refs_into-r.ensures) in
-    let said = (p.tells-code, (p.leaves-slot, own-items p.puts)) in record { code = said.0; next = said.1; after = said.2 }
+    (with-room (refs_call a.buffer.now c.put_short_ref.new.slot) c.one_room-most.ensures.is c.refs_into-r.ensures) in
+    record { code = p.tells-code; next = p.leaves-slot; after = own-items p.puts }
 
 pub refs_into-r-requires : goal.refs_into-r-requires
 refs_into-r-requires c = c.one_room-most.ensures.fits

@@ -30,15 +30,15 @@ answers c e = let a = (entered c).args in group_clauses a.buffer.now a.rec.now a
 
 pub returns-then-out-lt16 : goal.returns-then-out-lt16
 returns-then-out-lt16 c = let a = c.args in
-    let said = group_clauses a.buffer.now a.rec.now a.out.now a.index c.well_formed.0.0 (answer-short 2 range_words a.out.now (λ a. refl) (group_in a.buffer.now a.rec.now a.index) c.if-out-lt16.true) in record { code = said.0; after = said.1; scanned = said.2 }
+    let said = group_clauses a.buffer.now a.rec.now a.out.now a.index c.well_formed.0.0 (answer-short 2 range_words a.out.now (λ a. refl) (group_in a.buffer.now a.rec.now a.index) c.if-out-lt16.true) in record { code = said.0; after = said.1.0; scanned = said.1.1 }
 
 pub returns-in-Outside : goal.returns-in-Outside
 returns-in-Outside c = let a = c.args in
     let said = group_clauses a.buffer.now a.rec.now a.out.now a.index c.well_formed.0.0
-    (answer-refused 2 range_words a.out.now c.if-out-lt16.false (group-no-record a.buffer.now a.rec.now a.index (says record_of c.record_in-r.ensures c.in-Outside.is)) refl) in record { code = said.0; after = said.1; scanned = said.2 }
+    (answer-refused 2 range_words a.out.now c.if-out-lt16.false (group-no-record a.buffer.now a.rec.now a.index (says record_of c.record_in-r.ensures c.in-Outside.is)) refl) in record { code = said.0; after = said.1.0; scanned = said.1.1 }
 
 pub returns-in-Refused : goal.returns-in-Refused
-returns-in-Refused c = let said = answers c.before.before.before.before (answer-refused 2 range_words (entered c.before.before.before.before).args.out.now c.if-out-lt16.false (asked c.before.before.before.before c.in-Refused.is) c.number.ensures) in record { code = said.0; after = said.1; scanned = said.2 }
+returns-in-Refused c = let said = answers c.before.before.before.before (answer-refused 2 range_words (entered c.before.before.before.before).args.out.now c.if-out-lt16.false (asked c.before.before.before.before c.in-Refused.is) c.number.ensures) in record { code = said.0; after = said.1.0; scanned = said.1.1 }
 
 pub returns-in-Range : goal.returns-in-Range
-returns-in-Range c = let said = answers c.before.before.before.before.before.before.before.before.before (answer-kept 2 range_words (entered c.before.before.before.before.before.before.before.before.before).args.out.now c.if-out-lt16.false (asked c.before.before.before.before.before.before.before.before.before c.in-Range.is) c.range_numbers.ensures c.put_numbers.ensures) in record { code = said.0; after = said.1; scanned = said.2 }
+returns-in-Range c = let said = answers c.before.before.before.before.before.before.before.before.before (answer-kept 2 range_words (entered c.before.before.before.before.before.before.before.before.before).args.out.now c.if-out-lt16.false (asked c.before.before.before.before.before.before.before.before.before c.in-Range.is) c.range_numbers.ensures c.put_numbers.ensures) in record { code = said.0; after = said.1.0; scanned = said.1.1 }

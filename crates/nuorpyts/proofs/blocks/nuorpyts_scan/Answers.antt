@@ -15,18 +15,18 @@ use Rattle.nuorpyts.proofs.blocks.nuorpyts_scan.Goals as goal
 pub returns-then-out-lt72 : goal.returns-then-out-lt72
 returns-then-out-lt72 c = let out = c.args.out.now in
     let answer = answer-short 9 record_words out (λ a. refl) (each _ _) c.if-out-lt72.true in
-    let said = (answer.0, (answer.1, (too_short 72 out _ _ c.if-out-lt72.true, (λ five is. omega arith, c.well_formed.0.0)))) in record { code = said.0; answer = said.1; after = said.2; room = said.3; held = said.4 }
+    record { code = answer.0; answer = answer.1; after = too_short 72 out _ _ c.if-out-lt72.true; room = λ five is. omega arith; held = c.well_formed.0.0 }
 
 pub returns-in-Refused : goal.returns-in-Refused
-returns-in-Refused c = let tables : let a = c.args in c.scan-s.new.0 ≡ scan_after a.buffer.now a.block a.out.now =
-    let a = c.args in c.scan-s.ensures.after.0 ∙ long_enough 72 a.out.now _ a.buffer.now c.if-out-lt72.false in
+returns-in-Refused c = let tables : let a = c.args in c.scan-s.new.buffer ≡ scan_after a.buffer.now a.block a.out.now =
+    let a = c.args in c.scan-s.ensures.after ∙ long_enough 72 a.out.now _ a.buffer.now c.if-out-lt72.false in
     let out = c.args.out.now in
     let answer = answer-refused 9 record_words out c.if-out-lt72.false (says scanned_record c.scan-s.ensures.answer c.in-Refused.is) c.number.ensures in
-    let said = (answer.0, (answer.1, (tables, (λ five is. c.scan-s.ensures.after.1 five (ap scanned_record c.in-Refused.is ∙ ap refused (thirteen _ (sym c.number.ensures ∙ is))), c.well_formed.0.0)))) in record { code = said.0; answer = said.1; after = said.2; room = said.3; held = said.4 }
+    record { code = answer.0; answer = answer.1; after = tables; room = λ five is. c.scan-s.ensures.room five (ap scanned_record c.in-Refused.is ∙ ap refused (thirteen _ (sym c.number.ensures ∙ is))); held = c.well_formed.0.0 }
 
 pub returns-in-Scanned : goal.returns-in-Scanned
-returns-in-Scanned c = let tables : let a = c.args in c.scan-s.new.0 ≡ scan_after a.buffer.now a.block a.out.now =
-    let a = c.args in c.scan-s.ensures.after.0 ∙ long_enough 72 a.out.now _ a.buffer.now c.if-out-lt72.false in
+returns-in-Scanned c = let tables : let a = c.args in c.scan-s.new.buffer ≡ scan_after a.buffer.now a.block a.out.now =
+    let a = c.args in c.scan-s.ensures.after ∙ long_enough 72 a.out.now _ a.buffer.now c.if-out-lt72.false in
     let out = c.args.out.now in
     let answer = answer-kept 9 record_words out c.if-out-lt72.false (says scanned_record c.scan-s.ensures.answer c.in-Scanned.is) c.record_numbers.ensures c.put_numbers.ensures in
-    let said = (answer.0, (answer.1, (tables, (λ five is. omega arith, c.well_formed.0.0)))) in record { code = said.0; answer = said.1; after = said.2; room = said.3; held = said.4 }
+    record { code = answer.0; answer = answer.1; after = tables; room = λ five is. omega arith; held = c.well_formed.0.0 }

@@ -27,7 +27,7 @@ answers c e g k =
     (says record_of c.record_in-q.ensures c.in-Record-q.is)
     e
     c.same_listing-compared.ensures.answer
-    c.same_listing-compared.ensures.decides.0
+    c.same_listing-compared.ensures.decides
     s.good.0.0
     s.good.1.1.0.0
     c.if-out-lt8.false
@@ -36,7 +36,7 @@ answers c e g k =
 
 pub returns-then-out-lt8 : goal.returns-then-out-lt8
 returns-then-out-lt8 c = let a = c.args in
-    let said = same-short a.first.now a.a.now a.second.now a.b.now a.out.now c.if-out-lt8.true in record { code = said.0; after = said.1; decides = said.2 }
+    let said = same-short a.first.now a.a.now a.second.now a.b.now a.out.now c.if-out-lt8.true in record { code = said.0; after = said.1.0; decides = said.1.1 }
 
 pub enum_known-p : goal.enum_known-p
 enum_known-p c = let s = entered c.before.before.before in
@@ -51,10 +51,10 @@ enum_known-q c = let s = entered c.before.before.before.before.before.before.bef
     (says record_of c.record_in-q.ensures c.enum-told2.given.1)
 
 pub returns-in-Refused : goal.returns-in-Refused
-returns-in-Refused c = let said = answers c.before.before.before.before c.in-Refused.is c.number.ensures refl in record { code = said.0; after = said.1; decides = said.2 }
+returns-in-Refused c = let said = answers c.before.before.before.before c.in-Refused.is c.number.ensures refl in record { code = said.0; after = said.1.0; decides = said.1.1 }
 
 pub returns-in-Same : goal.returns-in-Same
-returns-in-Same c = let said = answers c.before.before.before.before.before.before.before c.in-Same.is refl c.put_numbers.ensures in record { code = said.0; after = said.1; decides = said.2 }
+returns-in-Same c = let said = answers c.before.before.before.before.before.before.before c.in-Same.is refl c.put_numbers.ensures in record { code = said.0; after = said.1.0; decides = said.1.1 }
 
 pub returns-in-Differ : goal.returns-in-Differ
-returns-in-Differ c = let said = answers c.before.before.before.before.before.before.before c.in-Differ.is refl c.put_numbers-in-Differ.ensures in record { code = said.0; after = said.1; decides = said.2 }
+returns-in-Differ c = let said = answers c.before.before.before.before.before.before.before c.in-Differ.is refl c.put_numbers-in-Differ.ensures in record { code = said.0; after = said.1.0; decides = said.1.1 }

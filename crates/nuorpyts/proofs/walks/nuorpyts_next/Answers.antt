@@ -8,9 +8,9 @@ use Rattle.nuorpyts.proofs.walks.nuorpyts_next.Goals as goal
 pub returns-then-short_step : goal.returns-then-short_step
 returns-then-short_step c =
     let told = step_served _ _ c.short_step.ensures c.if-short_step.true in
-    let said = (told.0, (told.1.0, (told.1.1, λ b n s' rec b' n' x y. whole_in x y))) in record { code = said.0; next = said.1; after = said.2; whole = said.3 }
+    record { code = told.0; next = told.1.0; after = told.1.1; whole = λ b n s' rec b' n' x y. whole_in x y }
 
 pub returns : goal.returns
 returns c =
     let told = step_unserved _ _ c.short_step.ensures c.if-short_step.false _ _ _ c.next_step.ensures in
-    let said = (told.0, (told.1.0, (told.1.1, λ b n s' rec b' n' x y. whole_in x y))) in record { code = said.0; next = said.1; after = said.2; whole = said.3 }
+    record { code = told.0; next = told.1.0; after = told.1.1; whole = λ b n s' rec b' n' x y. whole_in x y }

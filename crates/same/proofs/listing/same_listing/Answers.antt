@@ -15,7 +15,7 @@ returns-in-Refused c =
     let x = c.check-x.ensures.answer in
     let y = c.check-y.ensures.answer in
     c.both_checked-checked.ensures ∙ λ i. both_checked (x i) (y i) in
-    let said = all_clauses _ _ _ _ _ (sym (checks_refuse _ _ _ _ (says check_of checks c.in-Refused.is))) in record { answer = said.0; decides = said.1; whole = said.2 }
+    let said = all_clauses _ _ _ _ _ (sym (checks_refuse _ _ _ _ (says check_of checks c.in-Refused.is))) in record { answer = said.0; decides = said.1.0; whole = said.1.1 }
 
 pub returns-in-Accepted : goal.returns-in-Accepted
 returns-in-Accepted c =
@@ -24,4 +24,4 @@ returns-in-Accepted c =
     let x = c.check-x.ensures.answer in
     let y = c.check-y.ensures.answer in
     c.both_checked-checked.ensures ∙ λ i. both_checked (x i) (y i) in
-    let said = all_clauses _ _ _ _ c.same_walks.result (c.same_walks.ensures ∙ sym (checks-on _ _ _ _ (says check_of checks c.in-Accepted.is))) in record { answer = said.0; decides = said.1; whole = said.2 }
+    let said = all_clauses _ _ _ _ c.same_walks.result (c.same_walks.ensures ∙ sym (checks-on _ _ _ _ (says check_of checks c.in-Accepted.is))) in record { answer = said.0; decides = said.1.0; whole = said.1.1 }

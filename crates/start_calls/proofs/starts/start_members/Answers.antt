@@ -8,9 +8,9 @@ use Rattle.start_calls.proofs.starts.start_members.Goals as goal
 
 pub returns-then-slot-lt64 : goal.returns-then-slot-lt64
 returns-then-slot-lt64 c = let a = c.args in
-    let said = start-short members_at member_words iter.Ended 64 a.slot.now (members_start_in a.element.now) members_width c.if-slot-lt64.true in record { code = said.0; next = said.1; back = said.2 }
+    let said = start-short members_at member_words iter.Ended 64 a.slot.now (members_start_in a.element.now) members_width c.if-slot-lt64.true in record { code = said.0; next = said.1.0; back = said.1.1 }
 
 pub returns : goal.returns
 returns c = let a = c.args in
     let put = c.put_members.ensures in
-    let said = start-put members_at member_words iter.Ended 64 a.slot.now (members_start_in a.element.now) c.if-slot-lt64.false c.members_of-r.ensures put.after put.back in record { code = said.0; next = said.1; back = said.2 }
+    let said = start-put members_at member_words iter.Ended 64 a.slot.now (members_start_in a.element.now) c.if-slot-lt64.false c.members_of-r.ensures put.after put.back in record { code = said.0; next = said.1.0; back = said.1.1 }

@@ -8,9 +8,9 @@ use Rattle.start_calls.proofs.starts.start_refs.Goals as goal
 
 pub returns-then-slot-lt32 : goal.returns-then-slot-lt32
 returns-then-slot-lt32 c = let a = c.args in
-    let said = start-short refs_at ref_words iter.Ended 32 a.slot.now (refs_start_in a.element.now) refs_width c.if-slot-lt32.true in record { code = said.0; next = said.1; back = said.2 }
+    let said = start-short refs_at ref_words iter.Ended 32 a.slot.now (refs_start_in a.element.now) refs_width c.if-slot-lt32.true in record { code = said.0; next = said.1.0; back = said.1.1 }
 
 pub returns : goal.returns
 returns c = let a = c.args in
     let put = c.put_refs.ensures in
-    let said = start-put refs_at ref_words iter.Ended 32 a.slot.now (refs_start_in a.element.now) c.if-slot-lt32.false c.refs_of-r.ensures put.after put.back in record { code = said.0; next = said.1; back = said.2 }
+    let said = start-put refs_at ref_words iter.Ended 32 a.slot.now (refs_start_in a.element.now) c.if-slot-lt32.false c.refs_of-r.ensures put.after put.back in record { code = said.0; next = said.1.0; back = said.1.1 }

@@ -10,4 +10,4 @@ raw_tags_into-r-requires c = c.one_room-most.ensures.fits
 pub returns : goal.returns
 returns c = let a = c.args in
     let p = with-room (raw_tags_call a.buffer.now a.slot.now) c.one_room-most.ensures.is c.raw_tags_into-r.ensures in
-    let said = (p.tells-code, (p.leaves-slot, own-items p.puts)) in record { code = said.0; next = said.1; after = said.2 }
+    record { code = p.tells-code; next = p.leaves-slot; after = own-items p.puts }

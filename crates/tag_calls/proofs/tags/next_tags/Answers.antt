@@ -10,4 +10,4 @@ tags_into-r-requires c = c.room_for-most.ensures.fits
 pub returns : goal.returns
 returns c = let a = c.args in
     let p = with-room (tags_call a.buffer.now a.rec.now a.slot.now) c.room_for-most.ensures.is c.tags_into-r.ensures in
-    let said = (p.tells-code, (p.leaves-slot, (own-items p.puts, call_counts p a.count.now c.put_count.ensures))) in record { code = said.0; next = said.1; after = said.2; counted = said.3 }
+    record { code = p.tells-code; next = p.leaves-slot; after = own-items p.puts; counted = call_counts p a.count.now c.put_count.ensures }

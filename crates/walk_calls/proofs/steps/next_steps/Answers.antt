@@ -11,4 +11,4 @@ steps_into-r-requires c = c.room_for-most.ensures.fits
 pub returns : goal.returns
 returns c = let a = c.args in
     let p = with-room (walk_call a.buffer.now a.rec.now a.slot.now) c.room_for-most.ensures.is c.steps_into-r.ensures in
-    let said = (p.tells-code, (p.leaves-slot, (elements_in p.puts, call_counts p a.count.now c.put_count.ensures))) in record { code = said.0; next = said.1; after = said.2; counted = said.3 }
+    record { code = p.tells-code; next = p.leaves-slot; after = elements_in p.puts; counted = call_counts p a.count.now c.put_count.ensures }
