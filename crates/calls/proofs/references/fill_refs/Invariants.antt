@@ -13,7 +13,7 @@ use Rattle.calls.proofs.laws.Calls.{fill_begins, fill_on, fill_ends, fill_ended,
 use Rattle.calls.proofs.references.fill_refs.Given as goal
 
 abbrev pub invariant-loop-count : goal.invariant-loop-count
-invariant-loop-count l = Filling ref_item (refs_from l.buffer) 8 (refs_from l.buffer l.start) l.initial.out l.most l.count l.state l.out
+invariant-loop-count l = Filling ref_item (refs_from l.buffer) 8 (refs_from l.buffer l.fn.start) l.initial.out l.most l.count l.state l.out
 
 abbrev pub decreases-loop-count : goal.decreases-loop-count
 decreases-loop-count l = l.most - l.count

@@ -12,7 +12,7 @@ use Rattle.member_calls.proofs.laws.Members.{item-size}
 use Rattle.member_calls.proofs.members.fill_members.Given as goal
 
 abbrev pub invariant-loop-count : goal.invariant-loop-count
-invariant-loop-count l = Filling member_item (members_from l.buffer l.block) 32 (members_from l.buffer l.block l.start) l.initial.out l.most l.count l.state l.out
+invariant-loop-count l = Filling member_item (members_from l.buffer l.block) 32 (members_from l.buffer l.block l.fn.start) l.initial.out l.most l.count l.state l.out
 
 abbrev pub decreases-loop-count : goal.decreases-loop-count
 decreases-loop-count l = l.most - l.count

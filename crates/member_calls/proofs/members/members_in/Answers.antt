@@ -13,7 +13,7 @@ pub returns-then-phase-eq0 : goal.returns-then-phase-eq0
 returns-then-phase-eq0 c = members-ended _ c.read_u64-phase.ensures c.if-phase-eq0.true
 
 pub returns-then-phase-eq1 : goal.returns-then-phase-eq1
-returns-then-phase-eq1 c = let memids : _ ≡ sum_at _ 24 = λ i. record { column = c.column_in-then-phase-eq1.ensures i; c.before = returned w64 c.int64.type_inv (c.int64.ensures ∙ ap (twos 64) c.read_u64.ensures) i } in
+returns-then-phase-eq1 c = let memids : _ ≡ sum_at _ 24 = λ i. record { column = c.column_in-then-phase-eq1.ensures i; sum = returned w64 c.int64.type_inv (c.int64.ensures ∙ ap (twos 64) c.read_u64.ensures) i } in
     (λ i. iter.Members (record { roles = c.column_in.ensures i; memids = memids i; types = c.column_in-then-phase-eq1-2.ensures i }))
     ∙ members-there _ c.read_u64-phase.ensures c.if-phase-eq0.false c.if-phase-eq1.true
 

@@ -23,25 +23,23 @@ answers : (c : tie.After-get-got) {m : Got} {code : ℕ} {after : List ℕ} → 
 answers c e g k =
     let room = c.if-out-lt16.false in
     let a = (entered c).args in
-    let asked = got_with-record a.rec.now (λ c.before.before. get_at a.buffer.now c.before.before a.index) (says record_of c.record_in-r.ensures c.in-Record.is) c.get-got.ensures.answer e in
+    let asked = got_with-record a.rec.now (λ r. get_at a.buffer.now r a.index) (says record_of c.record_in-r.ensures c.in-Record.is) c.get-got.ensures.answer e in
     get_clauses a.buffer.now a.rec.now a.out.now a.index (entered c).well-formed.0.0 (got_answer a.out.now room asked g k)
 
 pub returns-then-out-lt16 : goal.returns-then-out-lt16
 returns-then-out-lt16 c = let a = c.args in
-
-    let said = get_clauses a.buffer.now a.rec.now a.out.now a.index c.well_formed.0.0 (got_short a.out.now (get_in a.buffer.now a.rec.now a.index) c.if-out-lt16.true) in record { code = said.0; after = said.1.0; scanned = said.1.1; }
+    let said = get_clauses a.buffer.now a.rec.now a.out.now a.index c.well_formed.0.0 (got_short a.out.now (get_in a.buffer.now a.rec.now a.index) c.if-out-lt16.true) in record { code = said.0; after = said.1.0; scanned = said.1.1 }
 
 pub returns-in-Outside : goal.returns-in-Outside
 returns-in-Outside c = let a = c.args in
-
     let said = get_clauses a.buffer.now a.rec.now a.out.now a.index c.well_formed.0.0
-    (got_answer a.out.now c.if-out-lt16.false (got_no-record a.rec.now (λ c.before.before. get_at a.buffer.now c.before.before a.index) (says record_of c.record_in-r.ensures c.in-Outside.is)) refl refl) in record { code = said.0; after = said.1.0; scanned = said.1.1; }
+    (got_answer a.out.now c.if-out-lt16.false (got_no-record a.rec.now (λ r. get_at a.buffer.now r a.index) (says record_of c.record_in-r.ensures c.in-Outside.is)) refl refl) in record { code = said.0; after = said.1.0; scanned = said.1.1 }
 
 pub returns-in-Refused : goal.returns-in-Refused
-returns-in-Refused c = let said = answers c.before.before.before.before c.in-Refused.is c.number.ensures refl in record { code = said.0; after = said.1.0; scanned = said.1.1; }
+returns-in-Refused c = let said = answers c.before.before.before.before c.in-Refused.is c.number.ensures refl in record { code = said.0; after = said.1.0; scanned = said.1.1 }
 
 pub returns-in-None : goal.returns-in-None
-returns-in-None c = let said = answers c.before.before c.in-None.is refl refl in record { code = said.0; after = said.1.0; scanned = said.1.1; }
+returns-in-None c = let said = answers c.before.before c.in-None.is refl refl in record { code = said.0; after = said.1.0; scanned = said.1.1 }
 
 pub returns-in-Text : goal.returns-in-Text
-returns-in-Text c = let said = answers c.before.before.before.before.before.before.before.before.before c.in-Text.is refl (c.put_numbers.ensures ∙ ap (filled (entered c.before.before.before.before.before.before.before.before.before).args.out.now) c.range_numbers.ensures) in record { code = said.0; after = said.1.0; scanned = said.1.1; }
+returns-in-Text c = let said = answers c.before.before.before.before.before.before.before.before.before c.in-Text.is refl (c.put_numbers.ensures ∙ ap (filled (entered c.before.before.before.before.before.before.before.before.before).args.out.now) c.range_numbers.ensures) in record { code = said.0; after = said.1.0; scanned = said.1.1 }

@@ -21,16 +21,15 @@ returns-in_default c =
 pub returns-in_default-y : goal.returns-in_default-y
 returns-in_default-y c =
     let a = c.args in
-    let hands = ap (λ (c.before.before.before.before : Said). said_then a.first.now c.before.before.before.before (end ended)) c.in-Element.is in
+    let hands = ap (λ (x : Said). said_then a.first.now x (end ended)) c.in-Element.is in
     let y = element-says a.second.now a.y (end ended) in
     second-ends (set_out _ _ _) hands y (element_silent a.y c.in_default-y.in_default-y-own.keys2) c.turn-in_default-y.ensures c.ends-in_default-y.ensures
 
 pub same_element-requires : goal.same_element-requires
-same_element-requires c =
-    (
-      subst (λ (x : Said). SaidInside c.args.first.now c.args.a x) c.in-Element.is c.requires.0,
-      subst (λ (y : Said). SaidInside c.args.second.now c.args.b y) c.in-Element-y.is c.requires.1,
-    )
+same_element-requires c = (
+  subst (λ (x : Said). SaidInside c.args.first.now c.args.a x) c.in-Element.is c.requires.0,
+  subst (λ (y : Said). SaidInside c.args.second.now c.args.b y) c.in-Element-y.is c.requires.1,
+)
 
 pub returns : goal.returns
 returns c =

@@ -11,7 +11,7 @@ use Rattle.calls.proofs.laws.Calls.{fill_begins, fill_on, fill_ends, fill_full, 
 use Rattle.tag_calls.proofs.raw_tags.fill_raw_tags.Given as goal
 
 abbrev pub invariant-loop-count : goal.invariant-loop-count
-invariant-loop-count l = Filling raw_tag_item (raw_tags_from l.buffer) 16 (raw_tags_from l.buffer l.start) l.initial.out l.most l.count l.state l.out
+invariant-loop-count l = Filling raw_tag_item (raw_tags_from l.buffer) 16 (raw_tags_from l.buffer l.fn.start) l.initial.out l.most l.count l.state l.out
 
 abbrev pub decreases-loop-count : goal.decreases-loop-count
 decreases-loop-count l = l.most - l.count

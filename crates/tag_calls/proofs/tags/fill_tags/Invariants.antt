@@ -13,7 +13,7 @@ use Rattle.calls.proofs.laws.Calls.{fill_begins, fill_on, fill_ends, fill_ended,
 use Rattle.tag_calls.proofs.tags.fill_tags.Given as goal
 
 abbrev pub invariant-loop-count : goal.invariant-loop-count
-invariant-loop-count l = Filling tag_item (tags_from l.buffer l.block) 48 (tags_from l.buffer l.block l.start) l.initial.out l.most l.count l.state l.out
+invariant-loop-count l = Filling tag_item (tags_from l.buffer l.block) 48 (tags_from l.buffer l.block l.fn.start) l.initial.out l.most l.count l.state l.out
 
 abbrev pub decreases-loop-count : goal.decreases-loop-count
 decreases-loop-count l = l.most - l.count

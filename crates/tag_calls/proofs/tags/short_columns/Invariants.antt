@@ -16,7 +16,7 @@ use Rattle.tag_calls.proofs.tags.short_columns.Given as goal
 
 abbrev pub invariant-loop-count : goal.invariant-loop-count
 invariant-loop-count l = (length l.out ≡ length l.initial.out)
-    × Run tag_item (tags_from l.buffer l.block) 48 l.most l.first (iter.Columns (record { l.keys = l.initial.keys; l.vals = l.initial.vals })) l.initial.out l.count (iter.Columns (record { l.keys = l.keys; l.vals = l.vals })) l.out
+    × Run tag_item (tags_from l.buffer l.block) 48 l.most l.first (iter.Columns (record { keys = l.initial.keys; vals = l.initial.vals })) l.initial.out l.count (iter.Columns (record { keys = l.keys; vals = l.vals })) l.out
 
 abbrev pub decreases-loop-count : goal.decreases-loop-count
 decreases-loop-count l = l.most - l.count

@@ -16,7 +16,7 @@ use Rattle.tag_calls.proofs.tags.short_pairs.Given as goal
 
 abbrev pub invariant-loop-count : goal.invariant-loop-count
 invariant-loop-count l = (length l.out ≡ length l.initial.out)
-    × Run tag_item (tags_from l.buffer l.block) 48 l.most l.first (iter.KeysVals (record { l.at = l.initial.at; l.end = l.end })) l.initial.out l.count (iter.KeysVals (record { l.at = l.at; l.end = l.end })) l.out
+    × Run tag_item (tags_from l.buffer l.block) 48 l.most l.first (iter.KeysVals (record { at = l.initial.at; end = l.end })) l.initial.out l.count (iter.KeysVals (record { at = l.at; end = l.end })) l.out
 
 abbrev pub decreases-loop-count : goal.decreases-loop-count
 decreases-loop-count l = l.most - l.count

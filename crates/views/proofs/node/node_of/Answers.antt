@@ -15,9 +15,9 @@ pub returns : goal.returns
 returns c =
     λ i.
     record {
-      c.before.before.before.before.before = (returned w64 c.zigzag_i64.type_inv c.zigzag_i64.ensures ∙ ap number c.slot_in-id.ensures) i;
-      c.before.before.before.before = (returned w64 c.zigzag_i64-2.type_inv c.zigzag_i64-2.ensures ∙ ap number c.slot_in-lat.ensures) i;
-      c.before.before.before = (returned w64 c.zigzag_i64-3.type_inv c.zigzag_i64-3.ensures ∙ ap number c.slot_in-lon.ensures) i;
+      id = (returned w64 c.zigzag_i64.type_inv c.zigzag_i64.ensures ∙ ap number c.slot_in-id.ensures) i;
+      lat = (returned w64 c.zigzag_i64-2.type_inv c.zigzag_i64-2.ensures ∙ ap number c.slot_in-lat.ensures) i;
+      lon = (returned w64 c.zigzag_i64-3.type_inv c.zigzag_i64-3.ensures ∙ ap number c.slot_in-lon.ensures) i;
       keys = c.part_in.ensures i;
       vals = c.part_in-2.ensures i;
       info = c.part_in-3.ensures i;

@@ -37,7 +37,7 @@ pub store-requires : goal.store-requires
 store-requires c =
     let room : c.place-k.result < 11 =
     in_room c.args.which c.rule_of-r.result c.in-Read.tag c.place-k.ensures c.rule_of-r.ensures in
-    (room c.before.before.before.before.before.before.before, c.loop-n.invariant.holds.size)
+    (room, c.loop-n.invariant.holds.size)
 
 pub loop-n-smaller : goal.loop-n-smaller
 loop-n-smaller c = left-falls _ _ (says field_of c.next_field-f.ensures c.in-Read.is)

@@ -6,9 +6,9 @@ pub returns : goal.returns
 returns c =
     λ i. record {
       version = c.start_column.ensures i;
-      c.before.before.before.before = c.start_sum64.ensures i;
+      timestamp = c.start_sum64.ensures i;
       changeset = c.start_sum64-2.ensures i;
-      c.before.before = c.start_sum32.ensures i;
+      uid = c.start_sum32.ensures i;
       user = c.start_sum32-2.ensures i;
       visible = c.start_column-2.ensures i;
     }

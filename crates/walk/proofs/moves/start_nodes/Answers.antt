@@ -10,7 +10,7 @@ returns c =
       message = record { start = a.message.start; len = a.message.len };
       columns =
           record {
-            rows = record { c.before.before.before = c.start_sum64.ensures i; c.before.before = c.start_sum64-2.ensures i; c.before = c.start_sum64-3.ensures i };
+            rows = record { ids = c.start_sum64.ensures i; lats = c.start_sum64-2.ensures i; lons = c.start_sum64-3.ensures i };
             keyvals = c.start_column.ensures i;
           };
     }

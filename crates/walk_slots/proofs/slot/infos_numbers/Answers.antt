@@ -13,15 +13,18 @@ returns c = let i = c.args.i in
     let held : InfosHeld i =
     record {
       version = column-told version.0;
-      c.before.before.before.before.before.before = sum_told version.1.0.1.1;
-      c.before.before.before.before = sum_told version.1.1.0.1.1;
-      c.before.before = sum32-told uids.0.1.1;
+      timestamp = sum_told version.1.0.1.1;
+      changeset = sum_told version.1.1.0.1.1;
+      uid = sum32-told uids.0.1.1;
       user = sum32-told uids.1.0.1.1;
       visible = column-told uids.1.1.0;
-    } in 
-    record { numbers = rw (
+    } in
+    record {
+      numbers = rw (
         as_word w64 i.timestamp.sum held.timestamp.sum c.bits_i64.ensures,
         as_word w64 i.changeset.sum held.changeset.sum c.bits_i64-2.ensures,
         as_word w32 i.uid.sum held.uid.sum c.bits_i32.ensures,
         as_word w32 i.user.sum held.user.sum c.bits_i32-2.ensures,
-      ); held = held; }
+      );
+      held = held;
+    }

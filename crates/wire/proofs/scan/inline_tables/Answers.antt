@@ -21,14 +21,14 @@ pub write_entries-requires-then-has_room : goal.write_entries-requires-then-has_
 write_entries-requires-then-has_room c =
     let room : let a = c.args in a.block + 8 * (a.strings + a.top.groups) ≤ length a.buffer.now =
     leb-true _ _ (sym c.has_room.ensures ∙ c.if-has_room.true) in
-    groups-room c.requires room _
+    groups-room c.requires room
     c.write_entries.ensures
 
 pub record_of-requires : goal.record_of-requires
 record_of-requires c =
     let room : let a = c.args in a.block + 8 * (a.strings + a.top.groups) ≤ length a.buffer.now =
     leb-true _ _ (sym c.has_room.ensures ∙ c.if-has_room.true) in
-    omega (arith, room c.before.before.before.before.before.before.before.before.before, c.well_formed)
+    omega (arith, room, c.well_formed)
 
 pub returns-then-has_room : goal.returns-then-has_room
 unfolding each
@@ -36,7 +36,7 @@ returns-then-has_room c =
     let room : let a = c.args in a.block + 8 * (a.strings + a.top.groups) ≤ length a.buffer.now =
     leb-true _ _ (sym c.has_room.ensures ∙ c.if-has_room.true) in
     let r = c.requires in
-    let h = room c.before.before.before.before.before.before.before.before.before.before in
+    let h = room in
     record { answer = ap kept c.record_of.ensures ∙ sym (ap (each meta) (with-room r h)); after = both-written r h _ c.write_entries.ensures _ c.write_entries-then-has_room.ensures ∙ sym (ap (after_scan _ _) (with-room r h)) }
 
 pub returns-else-has_room : goal.returns-else-has_room

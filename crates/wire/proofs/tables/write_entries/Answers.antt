@@ -67,4 +67,4 @@ write_entry-requires c = let room : let l = c.loop-t in l.place + 8 ≤ length l
 pub overflow_add-place : goal.overflow_add-place
 overflow_add-place c = let room : let l = c.loop-t in l.place + 8 ≤ length l.buffer =
     fill_room c.loop-t.invariant _ (says field_of c.next_field-f.ensures c.in-Read.is) c.if-t-tag.true in
-    omega (arith, room c.before.before.before.before, fill_length c.loop-t.invariant)
+    omega (arith, room, fill_length c.loop-t.invariant)
