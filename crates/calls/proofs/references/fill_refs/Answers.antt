@@ -53,7 +53,7 @@ pub shape_of-out-then-r-ne0 : goal.shape_of-out-then-r-ne0
 shape_of-out-then-r-ne0 c = let filled-run : let a = c.args in
     Filling ref_item (refs_from a.buffer.now) 8 (refs_from a.buffer.now a.start) a.out.now a.most c.short_refs-run.result.count c.short_refs-run.result.next c.short_refs-run.new.out =
     c.short_refs-run.ensures.keeps _ _ c.loop-count.invariant in
-    let p = filled-run in c.put_ref-r.auto.1.1.0 ∙ p.long
+    let p = filled-run in c.put_ref-r.auto.out ∙ p.long
 
 pub returns-then-r-ne0 : goal.returns-then-r-ne0
 returns-then-r-ne0 c = let filled-run : let a = c.args in

@@ -20,15 +20,14 @@ pub returns : goal.returns
 returns c =
     let slot = c.args.slot.now in
     let out = c.args.out.now in
-    let sum = c.wrapping_add_i64-sum in
-    let bits = as_word w64 sum.result sum.type_inv c.bits_i64-bits.ensures in
+    let bits = as_word w64 c.wrapping_add_i64-sum.result c.wrapping_add_i64-sum.type_inv c.bits_i64-bits.ensures in
     let before = returned w64 c.int64.type_inv (c.int64.ensures ∙ ap (twos 64) c.read_u64-before.ensures) in
-    let added = sum.ensures ∙ λ i. wrapping_add 64 (before i) (returned w64 c.zigzag_i64.type_inv c.zigzag_i64.ensures i) in
+    let added = c.wrapping_add_i64-sum.ensures ∙ λ i. wrapping_add 64 (before i) (returned w64 c.zigzag_i64.type_inv c.zigzag_i64.ensures i) in
     record {
       by =
           short_call _ slot out c.if-slot-lt32.false c.if-out-lt8.false c.read_u64.ensures c.if-read_u64-ne1.false
           (record { at = c.read_u64-at.result; end = c.read_u64-end.result }) (λ i. record { at = c.read_u64-at.ensures i; end = c.read_u64-end.ensures i }) c.if-word-eq0.false c.wide_value-word.ensures
-          sum.result sum.type_inv added (omega arith)
+          c.wrapping_add_i64-sum.result c.wrapping_add_i64-sum.type_inv added (omega arith)
           (c.put_numbers-2.ensures ∙ ap (λ (n : ℕ). filled slot (1 ∷ (c.read_u64-at.result + c.wide_value-word.result % 16) ∷ c.read_u64-end.result ∷ n ∷ [])) bits)
           (c.put_numbers.ensures ∙ ap (λ (n : ℕ). filled out (n ∷ [])) bits);
     }

@@ -27,14 +27,12 @@ state_at at end sum = iter.Refs (record { column = record { at = at; end = end }
 pub loop-count-preserved : goal.loop-count-preserved
 loop-count-preserved c =
     let summed_word : to_z w64 (of_z w64 c.wrapping_add_i64-sum.result) ≡ wrapping_add 64 (to_z w64 c.loop-count.sum-bits) (zigzag 64 (c.wide_value-word.result / 16)) =
-    let z = c.zigzag_i64 in
-    returned w64 c.wrapping_add_i64-sum.type_inv (c.wrapping_add_i64-sum.ensures ∙ ap (wrapping_add 64 (to_z w64 c.loop-count.sum-bits)) (returned w64 z.type_inv z.ensures)) in
-    let put = c.put_at in (
-      put.auto.0 ∙ c.loop-count.invariant.0,
+    returned w64 c.wrapping_add_i64-sum.type_inv (c.wrapping_add_i64-sum.ensures ∙ ap (wrapping_add 64 (to_z w64 c.loop-count.sum-bits)) (returned w64 c.zigzag_i64.type_inv c.zigzag_i64.ensures)) in (
+      c.put_at.auto.out ∙ c.loop-count.invariant.0,
       run_on ref_item (refs_from _) 8 c.loop-count.invariant.1 (λ x. lit≤ tt) c.loop-count-test.true
           (puts-item ref_item (refs_from _) (to_z w64 (of_z w64 c.wrapping_add_i64-sum.result))
           (summed 64 _ (typed (zigzag 64) (word_tells _ _ c.if-word-eq0.false c.wide_value-word.ensures) refl) summed_word).so
-          (put.ensures ∙ ap (λ (n : ℕ). filled_at c.loop-count.out (8 * c.loop-count.count) (n ∷ [])) c.bits_i64.ensures)),
+          (c.put_at.ensures ∙ ap (λ (n : ℕ). filled_at c.loop-count.out (8 * c.loop-count.count) (n ∷ [])) c.bits_i64.ensures)),
     )
 
 pub returns-in_default : goal.returns-in_default

@@ -15,7 +15,7 @@ pub returns-then-not-are_members_inside : goal.returns-then-not-are_members_insi
 returns-then-not-are_members_inside c =
     let stands : let a = c.args in is_record_inside a.buffer.now a.block ≡ true =
     confirmed c.is_inside.ensures c.if-not-is_inside.false-raw in
-    record { says = members-outside _ _ stands (refuted c.are_members_inside.ensures c.if-not-are_members_inside.true-raw); behind = refl }
+    record { says = members-outside _ _ stands _ (refuted c.are_members_inside.ensures c.if-not-are_members_inside.true-raw); behind = refl }
 
 pub returns-in-Refused : goal.returns-in-Refused
 returns-in-Refused c =
@@ -24,7 +24,7 @@ returns-in-Refused c =
     let inside : let a = c.args in members_inside a.buffer.now a.columns ≡ true =
     confirmed c.are_members_inside.ensures c.if-not-are_members_inside.false-raw in
     let t = c.next_member-r.ensures in
-    record { says = member-told _ _ stands c.next_member-r.result inside t.says t.inside c.in-Refused.is refl; behind = refl }
+    record { says = member-told _ _ stands _ c.next_member-r.result inside t.says t.inside c.in-Refused.is refl; behind = refl }
 
 pub returns-in-Ended : goal.returns-in-Ended
 returns-in-Ended c =
@@ -33,7 +33,7 @@ returns-in-Ended c =
     let inside : let a = c.args in members_inside a.buffer.now a.columns ≡ true =
     confirmed c.are_members_inside.ensures c.if-not-are_members_inside.false-raw in
     let t = c.next_member-r.ensures in
-    record { says = member-told _ _ stands c.next_member-r.result inside t.says t.inside c.in-Ended.is refl; behind = refl }
+    record { says = member-told _ _ stands _ c.next_member-r.result inside t.says t.inside c.in-Ended.is refl; behind = refl }
 
 pub returns-in-Value : goal.returns-in-Value
 returns-in-Value c =
@@ -47,7 +47,7 @@ returns-in-Value c =
     let kind = returned w32 {r = r.kind} c.struct_told-1.given.1.1.0.1 refl in
     let id = c.member_id.ensures ∙ (λ k. id_by (kind k) (sum k)) in
     let t = c.next_member-r.ensures in
-    record { says = member-told _ _ stands r inside t.says t.inside c.in-Value.is (λ j. record { role = role j; id = id j }); behind = refl }
+    record { says = member-told _ _ stands _ r inside t.says t.inside c.in-Value.is (λ j. record { role = role j; id = id j }); behind = refl }
 
 pub returns-then-not-is_inside : goal.returns-then-not-is_inside
 returns-then-not-is_inside c = record { says = members-no-record _ _ _ (refuted c.is_inside.ensures c.if-not-is_inside.true-raw); behind = refl }

@@ -19,5 +19,4 @@ returns-then-has_no_pairs c =
 pub returns : goal.returns
 returns c =
     let a = c.args in
-    let p = c.pass_pairs in
-    record { says = p.ensures.0; inside = passed-inside a.buffer.now a.keyvals p.result p.ensures.0 p.ensures.1 }
+    record { says = c.pass_pairs.ensures.says; inside = passed-inside a.buffer.now a.keyvals c.pass_pairs.result c.pass_pairs.ensures.says c.pass_pairs.ensures.inside }

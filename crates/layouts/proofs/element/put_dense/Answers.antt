@@ -11,7 +11,7 @@ use Rattle.layouts.proofs.laws.Element.{info_most}
 use Rattle.layouts.proofs.element.put_dense.Goals as goal
 
 pub put_info-requires : goal.put_info-requires
-put_info-requires c = omega (arith, c.put_at.auto.0, c.requires)
+put_info-requires c = omega (arith, c.put_at.auto.out, c.requires)
 
 pub returns : goal.returns
 returns c = let a = c.args in

@@ -11,7 +11,7 @@ pub returns-then-out-at-lt-ELEMENT : goal.returns-then-out-at-lt-ELEMENT
 returns-then-out-at-lt-ELEMENT c = let a = c.args in element-outside a.out.now a.at a.group a.message a.element (omega arith)
 
 pub put_own-requires : goal.put_own-requires
-put_own-requires c = omega (arith, c.put_at.auto.0)
+put_own-requires c = omega (arith, c.put_at.auto.out)
 
 pub returns : goal.returns
 returns c = let a = c.args in element-inside a.out.now a.at a.group a.message a.element (omega arith) c.kind_number-kind.ensures c.put_at.ensures c.put_own.ensures

@@ -39,7 +39,7 @@ pub shape_of-out-then-r-ne0 : goal.shape_of-out-then-r-ne0
 shape_of-out-then-r-ne0 c = let filled-run : let a = c.args in
     Filling member_item (members_from a.buffer.now a.block) 32 (members_from a.buffer.now a.block a.start) a.out.now a.most c.short_members-run.result.count c.short_members-run.result.next c.short_members-run.new.out =
     c.short_members-run.ensures.keeps _ _ c.loop-count.invariant in
-    let p = filled-run in c.put_member-r.auto.1.1.1.0 ∙ p.long
+    let p = filled-run in c.put_member-r.auto.out ∙ p.long
 
 pub returns-then-r-ne0 : goal.returns-then-r-ne0
 returns-then-r-ne0 c = let filled-run : let a = c.args in

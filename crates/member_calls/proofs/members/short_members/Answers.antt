@@ -40,20 +40,16 @@ entered l = l.before.before.before.before.before.before.before.before.before.bef
 pub loop-count-preserved : goal.loop-count-preserved
 loop-count-preserved c =
     let summed_word : to_z w64 (of_z w64 c.wrapping_add_i64-sum.result) ≡ wrapping_add 64 (to_z w64 c.loop-count.sum-bits) (zigzag 64 (c.wide_value-id.result / 16)) =
-    let z = c.zigzag_i64 in
-    returned w64 c.wrapping_add_i64-sum.type_inv (c.wrapping_add_i64-sum.ensures ∙ ap (wrapping_add 64 (to_z w64 c.loop-count.sum-bits)) (returned w64 z.type_inv z.ensures)) in
-    let role = c.short_value-role in
-    let id = c.wide_value-id in
-    let kind = c.short_value-kind in (
-      c.put_at.auto.0 ∙ c.loop-count.invariant.0,
+    returned w64 c.wrapping_add_i64-sum.type_inv (c.wrapping_add_i64-sum.ensures ∙ ap (wrapping_add 64 (to_z w64 c.loop-count.sum-bits)) (returned w64 c.zigzag_i64.type_inv c.zigzag_i64.ensures)) in (
+      c.put_at.auto.out ∙ c.loop-count.invariant.0,
       λ b h.
           run_on member_item (members_from _ b) 32 (c.loop-count.invariant.1 b h) item-size c.loop-count-test.true
           (member-put _ b h (record { roles = c.loop-count.roles; memids = record { column = c.loop-count.memids; sum = to_z w64 c.loop-count.sum-bits }; types = c.loop-count.types })
-          (record { some = c.if-role-eq0.false; tells = role.ensures })
-          (record { some = c.if-id-eq0.false; tells = id.ensures })
-          (record { some = c.if-kind-eq0.false; tells = kind.ensures })
+          (record { some = c.if-role-eq0.false; tells = c.short_value-role.ensures })
+          (record { some = c.if-id-eq0.false; tells = c.wide_value-id.ensures })
+          (record { some = c.if-kind-eq0.false; tells = c.short_value-kind.ensures })
           (to_z w64 (of_z w64 c.wrapping_add_i64-sum.result)) (omega (arith, c.if-role-gt2147483647.false)) (omega (arith, c.if-kind-gt2.false)) summed_word
-          (c.put_at.ensures ∙ ap (λ (n : ℕ). filled_at c.loop-count.out (32 * c.loop-count.count) (role.result / 16 ∷ kind.result / 16 ∷ kind.result / 16 ∷ n ∷ [])) c.bits_i64.ensures)),
+          (c.put_at.ensures ∙ ap (λ (n : ℕ). filled_at c.loop-count.out (32 * c.loop-count.count) (c.short_value-role.result / 16 ∷ c.short_value-kind.result / 16 ∷ c.short_value-kind.result / 16 ∷ n ∷ [])) c.bits_i64.ensures)),
     )
 
 pub returns-in_default : goal.returns-in_default

@@ -21,7 +21,7 @@ pub returns-in-Refused : goal.returns-in-Refused
 returns-in-Refused c = sym (tag-refused c.loop-n.invariant (says tag_of c.read_tag-t.ensures c.in-Refused.is))
 
 pub returns-then-numbers-top : goal.returns-then-numbers-top
-returns-then-numbers-top c = let found : let a = c.args in let l = c.loop-n in Found a.s.now a.field a.at l.numbers l.top l.i (tag_by c.in-Field.number c.in-Field.wire) c.in-Field.next =
+returns-then-numbers-top c = let found : let a = c.args in Found a.s.now a.field a.at c.loop-n.numbers c.loop-n.top c.loop-n.i (tag_by c.in-Field.number c.in-Field.wire) c.in-Field.next =
     record {
       groups = c.loop-n.invariant;
       tag = says tag_of c.read_tag-t.ensures c.in-Field.is;
@@ -29,7 +29,7 @@ returns-then-numbers-top c = let found : let a = c.args in let l = c.loop-n in F
     sym (other-end found c.if-wire-eq-EGROUP.true c.if-numbers-top.true)
 
 pub returns-then-top-eq0 : goal.returns-then-top-eq0
-returns-then-top-eq0 c = let found : let a = c.args in let l = c.loop-n in Found a.s.now a.field a.at l.numbers l.top l.i (tag_by c.in-Field.number c.in-Field.wire) c.in-Field.next =
+returns-then-top-eq0 c = let found : let a = c.args in Found a.s.now a.field a.at c.loop-n.numbers c.loop-n.top c.loop-n.i (tag_by c.in-Field.number c.in-Field.wire) c.in-Field.next =
     record {
       groups = c.loop-n.invariant;
       tag = says tag_of c.read_tag-t.ensures c.in-Field.is;
@@ -37,7 +37,7 @@ returns-then-top-eq0 c = let found : let a = c.args in let l = c.loop-n in Found
     sym (closes-last found c.if-wire-eq-EGROUP.true c.if-numbers-top.false c.if-top-eq0.true)
 
 pub loop-n-smaller-then-wire-eq-EGROUP : goal.loop-n-smaller-then-wire-eq-EGROUP
-loop-n-smaller-then-wire-eq-EGROUP c = let found : let a = c.args in let l = c.loop-n in Found a.s.now a.field a.at l.numbers l.top l.i (tag_by c.in-Field.number c.in-Field.wire) c.in-Field.next =
+loop-n-smaller-then-wire-eq-EGROUP c = let found : let a = c.args in Found a.s.now a.field a.at c.loop-n.numbers c.loop-n.top c.loop-n.i (tag_by c.in-Field.number c.in-Field.wire) c.in-Field.next =
     record {
       groups = c.loop-n.invariant;
       tag = says tag_of c.read_tag-t.ensures c.in-Field.is;
@@ -45,7 +45,7 @@ loop-n-smaller-then-wire-eq-EGROUP c = let found : let a = c.args in let l = c.l
     falls found
 
 pub loop-n-preserved-then-wire-eq-EGROUP : goal.loop-n-preserved-then-wire-eq-EGROUP
-loop-n-preserved-then-wire-eq-EGROUP c = let found : let a = c.args in let l = c.loop-n in Found a.s.now a.field a.at l.numbers l.top l.i (tag_by c.in-Field.number c.in-Field.wire) c.in-Field.next =
+loop-n-preserved-then-wire-eq-EGROUP c = let found : let a = c.args in Found a.s.now a.field a.at c.loop-n.numbers c.loop-n.top c.loop-n.i (tag_by c.in-Field.number c.in-Field.wire) c.in-Field.next =
     record {
       groups = c.loop-n.invariant;
       tag = says tag_of c.read_tag-t.ensures c.in-Field.is;
@@ -53,7 +53,7 @@ loop-n-preserved-then-wire-eq-EGROUP c = let found : let a = c.args in let l = c
     closes_inner found c.if-wire-eq-EGROUP.true c.if-numbers-top.false c.if-top-eq0.false
 
 pub returns-then-top-eq15 : goal.returns-then-top-eq15
-returns-then-top-eq15 c = let found : let a = c.args in let l = c.loop-n in Found a.s.now a.field a.at l.numbers l.top l.i (tag_by c.in-Field.number c.in-Field.wire) c.in-Field.next =
+returns-then-top-eq15 c = let found : let a = c.args in Found a.s.now a.field a.at c.loop-n.numbers c.loop-n.top c.loop-n.i (tag_by c.in-Field.number c.in-Field.wire) c.in-Field.next =
     record {
       groups = c.loop-n.invariant;
       tag = says tag_of c.read_tag-t.ensures c.in-Field.is;
@@ -61,7 +61,7 @@ returns-then-top-eq15 c = let found : let a = c.args in let l = c.loop-n in Foun
     sym (too_deep found c.if-wire-eq-SGROUP.true c.if-top-eq15.true)
 
 pub loop-n-smaller-then-wire-eq-SGROUP : goal.loop-n-smaller-then-wire-eq-SGROUP
-loop-n-smaller-then-wire-eq-SGROUP c = let found : let a = c.args in let l = c.loop-n in Found a.s.now a.field a.at l.numbers l.top l.i (tag_by c.in-Field.number c.in-Field.wire) c.in-Field.next =
+loop-n-smaller-then-wire-eq-SGROUP c = let found : let a = c.args in Found a.s.now a.field a.at c.loop-n.numbers c.loop-n.top c.loop-n.i (tag_by c.in-Field.number c.in-Field.wire) c.in-Field.next =
     record {
       groups = c.loop-n.invariant;
       tag = says tag_of c.read_tag-t.ensures c.in-Field.is;
@@ -69,7 +69,7 @@ loop-n-smaller-then-wire-eq-SGROUP c = let found : let a = c.args in let l = c.l
     falls found
 
 pub loop-n-preserved-then-wire-eq-SGROUP : goal.loop-n-preserved-then-wire-eq-SGROUP
-loop-n-preserved-then-wire-eq-SGROUP c = let found : let a = c.args in let l = c.loop-n in Found a.s.now a.field a.at l.numbers l.top l.i (tag_by c.in-Field.number c.in-Field.wire) c.in-Field.next =
+loop-n-preserved-then-wire-eq-SGROUP c = let found : let a = c.args in Found a.s.now a.field a.at c.loop-n.numbers c.loop-n.top c.loop-n.i (tag_by c.in-Field.number c.in-Field.wire) c.in-Field.next =
     record {
       groups = c.loop-n.invariant;
       tag = says tag_of c.read_tag-t.ensures c.in-Field.is;
@@ -77,7 +77,7 @@ loop-n-preserved-then-wire-eq-SGROUP c = let found : let a = c.args in let l = c
     opens_inner found c.if-wire-eq-SGROUP.true c.if-top-eq15.false
 
 pub read_single-v-requires : goal.read_single-v-requires
-read_single-v-requires c = let found : let a = c.args in let l = c.loop-n in Found a.s.now a.field a.at l.numbers l.top l.i (tag_by c.in-Field.number c.in-Field.wire) c.in-Field.next =
+read_single-v-requires c = let found : let a = c.args in Found a.s.now a.field a.at c.loop-n.numbers c.loop-n.top c.loop-n.i (tag_by c.in-Field.number c.in-Field.wire) c.in-Field.next =
     record {
       groups = c.loop-n.invariant;
       tag = says tag_of c.read_tag-t.ensures c.in-Field.is;
@@ -85,7 +85,7 @@ read_single-v-requires c = let found : let a = c.args in let l = c.loop-n in Fou
     (further found).1
 
 pub returns-in-Refused-v : goal.returns-in-Refused-v
-returns-in-Refused-v c = let found : let a = c.args in let l = c.loop-n in Found a.s.now a.field a.at l.numbers l.top l.i (tag_by c.in-Field.number c.in-Field.wire) c.in-Field.next =
+returns-in-Refused-v c = let found : let a = c.args in Found a.s.now a.field a.at c.loop-n.numbers c.loop-n.top c.loop-n.i (tag_by c.in-Field.number c.in-Field.wire) c.in-Field.next =
     record {
       groups = c.loop-n.invariant;
       tag = says tag_of c.read_tag-t.ensures c.in-Field.is;
@@ -93,7 +93,7 @@ returns-in-Refused-v c = let found : let a = c.args in let l = c.loop-n in Found
     sym (value-refused found c.if-wire-eq-SGROUP.false c.if-wire-eq-EGROUP.false (says payload_of c.read_single-v.ensures c.in-Refused-v.is))
 
 pub loop-n-smaller : goal.loop-n-smaller
-loop-n-smaller c = let found : let a = c.args in let l = c.loop-n in Found a.s.now a.field a.at l.numbers l.top l.i (tag_by c.in-Field.number c.in-Field.wire) c.in-Field.next =
+loop-n-smaller c = let found : let a = c.args in Found a.s.now a.field a.at c.loop-n.numbers c.loop-n.top c.loop-n.i (tag_by c.in-Field.number c.in-Field.wire) c.in-Field.next =
     record {
       groups = c.loop-n.invariant;
       tag = says tag_of c.read_tag-t.ensures c.in-Field.is;
@@ -101,7 +101,7 @@ loop-n-smaller c = let found : let a = c.args in let l = c.loop-n in Found a.s.n
     falls-behind found c.if-wire-eq-SGROUP.false c.if-wire-eq-EGROUP.false (says payload_of c.read_single-v.ensures c.in-Taken.is)
 
 pub loop-n-preserved : goal.loop-n-preserved
-loop-n-preserved c = let found : let a = c.args in let l = c.loop-n in Found a.s.now a.field a.at l.numbers l.top l.i (tag_by c.in-Field.number c.in-Field.wire) c.in-Field.next =
+loop-n-preserved c = let found : let a = c.args in Found a.s.now a.field a.at c.loop-n.numbers c.loop-n.top c.loop-n.i (tag_by c.in-Field.number c.in-Field.wire) c.in-Field.next =
     record {
       groups = c.loop-n.invariant;
       tag = says tag_of c.read_tag-t.ensures c.in-Field.is;

@@ -72,8 +72,8 @@ returns-in-Text-q-2 c =
     let second-found : let a = c.args in c.role_text-q.result ≡ role_at a.second.now a.b a.y =
     c.role_text-q.ensures.answer ∙ ap (role_at c.args.second.now c.args.b) (to_z-of_z w32 c.args.y c.ranges.y) in
     let a = c.args in
-    let here = role-stands a.first.now a.a a.x (sym first_found c.in-Text.is) in
-    let there = role-stands a.second.now a.b a.y (sym second-found c.in-Text-q-2.is) in
+    let here = role-stands a.first.now a.a a.x (sym first_found ∙ c.in-Text.is) in
+    let there = role-stands a.second.now a.b a.y (sym second-found ∙ c.in-Text-q-2.is) in
     c.decided.ensures
     ∙ ap kept (c.same_text.ensures ∙ λ i. same_text (here i) (there i))
     ∙ roles-found _ _ first_found second-found c.in-Text.is c.in-Text-q-2.is

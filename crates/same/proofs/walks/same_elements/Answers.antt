@@ -76,7 +76,7 @@ loop-compared-smaller c =
     said-is s.first.now s.a c.step-p.result ∙ c.step-p.ensures.answer.says in
     let s = c.args in
     let behind = elements_from s.first.now s.a c.step-p.result.next in
-    more_shortens (sym first_said ap (λ (x : Said). said_then s.first.now x behind) c.in-Element.is)
+    more_shortens (sym first_said ∙ ap (λ (x : Said). said_then s.first.now x behind) c.in-Element.is)
 
 pub loop-compared-preserved : goal.loop-compared-preserved
 loop-compared-preserved c =

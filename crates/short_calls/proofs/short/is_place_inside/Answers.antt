@@ -27,14 +27,13 @@ pub returns-then-not-part_fits : goal.returns-then-not-part_fits
 returns-then-not-part_fits c e = absurd (true≢false (sym e))
 
 pub returns : goal.returns
-returns c e = let n = c.read_u64 in
-    let a = c.args in
+returns c e = let a = c.args in
     let s = a.buffer.now in
     let slot = a.slot.now in
     record {
       block = c.in-Record.block;
       read = says record_of c.record_in-r.ensures c.in-Record.is;
       tables = confirmed c.is_inside.ensures c.if-not-is_inside.false-raw;
-      group = also-true (lt-ltb (number_at 8 slot 16) c.in-Record.block.groups (omega (arith, c.if-block-read_u64.false, n.ensures))) (sym (λ j. leb (c.read_u64-2.ensures j + c.read_u64-3.ensures j) (length s)) ∙ confirmed c.part_fits.ensures c.if-not-part_fits.false-raw);
+      group = also-true (lt-ltb (number_at 8 slot 16) c.in-Record.block.groups (omega (arith, c.if-block-read_u64.false, c.read_u64.ensures))) (sym (λ j. leb (c.read_u64-2.ensures j + c.read_u64-3.ensures j) (length s)) ∙ confirmed c.part_fits.ensures c.if-not-part_fits.false-raw);
       message = sym (λ j. leb (c.read_u64-4.ensures j + c.read_u64-5.ensures j) (length s)) ∙ sym c.part_fits-2.ensures ∙ e;
     }

@@ -17,7 +17,7 @@ use Rattle.tag_calls.proofs.tags.short_pairs.Goals as goal
 -- one tag more
 pub loop-count-preserved : goal.loop-count-preserved
 loop-count-preserved c = (
-  c.put_texts.auto.1.1.1.1.1.0 ∙ c.loop-count.invariant.0,
+  c.put_texts.auto.out ∙ c.loop-count.invariant.0,
   run_on tag_item (tags_from _ _) 48 c.loop-count.invariant.1 (λ x. lit≤ tt) c.loop-count-test.true
       (pair_put _ _ c.requires.block_value _ c.if-k-lt16.false c.if-v-eq0.false c.wide_value-k.ensures c.wide_value-v.ensures (texts-found c.put_texts.ensures c.if-not-put_texts.false-raw)),
 )
@@ -62,7 +62,7 @@ pub returns-then-v-eq0 : goal.returns-then-v-eq0
 returns-then-v-eq0 c = c.loop-count.invariant.1
 
 pub shape_of-out-then-not-put_texts : goal.shape_of-out-then-not-put_texts
-shape_of-out-then-not-put_texts c = c.put_texts.auto.1.1.1.1.1.0 ∙ c.loop-count.invariant.0
+shape_of-out-then-not-put_texts c = c.put_texts.auto.out ∙ c.loop-count.invariant.0
 
 pub returns-then-not-put_texts : goal.returns-then-not-put_texts
 returns-then-not-put_texts c = run-same tag_item (tags_from _ _) 48 (texts-missing c.put_texts.ensures c.if-not-put_texts.true-raw) c.loop-count.invariant.1

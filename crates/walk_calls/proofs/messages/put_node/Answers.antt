@@ -20,7 +20,7 @@ returns c =
     let v = c.in-Parsed.v in
     message-put a.buffer.now a.full kind.Nodes a.group a.message a.out.now a.at (element.Node (record { id = v.id; lat = v.lat; lon = v.lon; keys = v.keys; vals = v.vals; info = c.info_in-info.result }))
     (shown-kept (node_at a.message.start) (node_in a.full) _ (says parsed_node c.parse-p.ensures c.in-Parsed.is) ∙ ap (λ (p : Part). kept (node_item (record { id = v.id; lat = v.lat; lon = v.lon; keys = v.keys; vals = v.vals; info = p }))) (sym c.info_in-info.ensures))
-    c.requires c.put_at.auto.0 c.put_at.ensures c.node_numbers.ensures c.put_at-2.ensures
+    c.requires c.put_at.auto.out c.put_at.ensures c.node_numbers.ensures c.put_at-2.ensures
 
 pub returns-in_default : goal.returns-in_default
 returns-in_default c = no-message _ _ _ _ _ _ _

@@ -20,7 +20,7 @@ returns c =
     let v = c.in-Parsed.v in
     message-put a.buffer.now a.full kind.Relations a.group a.message a.out.now a.at (element.Relation (record { id = v.id; keys = v.keys; vals = v.vals; info = c.info_in-info.result; roles = v.roles; memids = v.memids; types = v.types }))
     (shown-kept (relation_at a.message.start) (relation_in a.full) _ (says parsed_relation c.parse-p.ensures c.in-Parsed.is) ∙ ap (λ (p : Part). kept (relation_item (record { id = v.id; keys = v.keys; vals = v.vals; info = p; roles = v.roles; memids = v.memids; types = v.types }))) (sym c.info_in-info.ensures))
-    c.requires c.put_at.auto.0 c.put_at.ensures c.relation_numbers.ensures c.put_at-2.ensures
+    c.requires c.put_at.auto.out c.put_at.ensures c.relation_numbers.ensures c.put_at-2.ensures
 
 pub returns-in_default : goal.returns-in_default
 returns-in_default c = no-message _ _ _ _ _ _ _

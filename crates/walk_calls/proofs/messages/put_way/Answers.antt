@@ -20,7 +20,7 @@ returns c =
     let v = c.in-Parsed.v in
     message-put a.buffer.now a.full kind.Ways a.group a.message a.out.now a.at (element.Way (record { id = v.id; keys = v.keys; vals = v.vals; info = c.info_in-info.result; refs = v.refs; lat = v.lat; lon = v.lon; pins = v.pins }))
     (shown-kept (way_at a.message.start) (way_in a.full) _ (says parsed_way c.parse-p.ensures c.in-Parsed.is) ∙ ap (λ (p : Part). kept (way_item (record { id = v.id; keys = v.keys; vals = v.vals; info = p; refs = v.refs; lat = v.lat; lon = v.lon; pins = v.pins }))) (sym c.info_in-info.ensures))
-    c.requires c.put_at.auto.0 c.put_at.ensures c.way_numbers.ensures c.put_at-2.ensures
+    c.requires c.put_at.auto.out c.put_at.ensures c.way_numbers.ensures c.put_at-2.ensures
 
 pub returns-in_default : goal.returns-in_default
 returns-in_default c = no-message _ _ _ _ _ _ _

@@ -23,8 +23,7 @@ pub loop-count-smaller : goal.loop-count-smaller
 loop-count-smaller c = omega arith
 
 pub loop-count-preserved : goal.loop-count-preserved
-loop-count-preserved c = let n = c.next_node-n in
-    elements-on _ _ c.loop-count.invariant c.loop-count-test.true _ (node-onward _ c.args.nodes c.loop-count.columns n.result n.ensures c.if-n-eq0.false) c.put_node.ensures
+loop-count-preserved c = elements-on _ _ c.loop-count.invariant c.loop-count-test.true _ (node-onward _ c.args.nodes c.loop-count.columns c.next_node-n.result c.next_node-n.ensures c.if-n-eq0.false) c.put_node.ensures
 
 pub shape_of-out : goal.shape_of-out
 shape_of-out c = c.loop-count.invariant.long

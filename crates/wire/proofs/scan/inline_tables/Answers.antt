@@ -21,7 +21,7 @@ pub write_entries-requires-then-has_room : goal.write_entries-requires-then-has_
 write_entries-requires-then-has_room c =
     let room : let a = c.args in a.block + 8 * (a.strings + a.top.groups) ≤ length a.buffer.now =
     leb-true _ _ (sym c.has_room.ensures ∙ c.if-has_room.true) in
-    groups-room c.requires room
+    groups-room c.requires room _
     c.write_entries.ensures
 
 pub record_of-requires : goal.record_of-requires

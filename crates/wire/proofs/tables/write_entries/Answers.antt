@@ -50,21 +50,21 @@ pub returns-in-Spoilt : goal.returns-in-Spoilt
 returns-in-Spoilt c = fill_ends c.loop-t.invariant (says field_of c.next_field-f.ensures c.in-Spoilt.is)
 
 pub slice_bounds-write_entry-count : goal.slice_bounds-write_entry-count
-slice_bounds-write_entry-count c = let room : let l = c.loop-t in l.place + 8 ≤ length l.buffer =
+slice_bounds-write_entry-count c = let room : c.loop-t.place + 8 ≤ length c.loop-t.buffer =
     fill_room c.loop-t.invariant _ (says field_of c.next_field-f.ensures c.in-Read.is) c.if-t-tag.true in
     omega (arith, room)
 
 pub slice_bounds-write_entry-start : goal.slice_bounds-write_entry-start
-slice_bounds-write_entry-start c = let room : let l = c.loop-t in l.place + 8 ≤ length l.buffer =
+slice_bounds-write_entry-start c = let room : c.loop-t.place + 8 ≤ length c.loop-t.buffer =
     fill_room c.loop-t.invariant _ (says field_of c.next_field-f.ensures c.in-Read.is) c.if-t-tag.true in
     omega (arith, room)
 
 pub write_entry-requires : goal.write_entry-requires
-write_entry-requires c = let room : let l = c.loop-t in l.place + 8 ≤ length l.buffer =
+write_entry-requires c = let room : c.loop-t.place + 8 ≤ length c.loop-t.buffer =
     fill_room c.loop-t.invariant _ (says field_of c.next_field-f.ensures c.in-Read.is) c.if-t-tag.true in
     simp (length-take, length-drop) (omega (arith, room))
 
 pub overflow_add-place : goal.overflow_add-place
-overflow_add-place c = let room : let l = c.loop-t in l.place + 8 ≤ length l.buffer =
+overflow_add-place c = let room : c.loop-t.place + 8 ≤ length c.loop-t.buffer =
     fill_room c.loop-t.invariant _ (says field_of c.next_field-f.ensures c.in-Read.is) c.if-t-tag.true in
     omega (arith, room, fill_length c.loop-t.invariant)
