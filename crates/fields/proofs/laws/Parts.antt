@@ -8,8 +8,6 @@ use mathlib.Core.Bool.{Bool, true, false}
 use native.Mathlib.Omega.{arith}
 use lib.ListN.{length}
 use lib.Dec.{eqb}
-use denote.Enum.Declared.{tag_of}
-use types.Run.{OneOf}
 use borrow.Author.Tests.{eq-eqb, eqb-true}
 use Rattle.message.specs.declared.field.Field as answer
 use Rattle.message.specs.declared.field.Field.TheVariants as variant
@@ -40,8 +38,8 @@ module _ (tag : ℕ) (h : tag % 8 ≡ 2) (t : ℕ) where
 pub left-falls : (s : List ℕ) (p : ℕ) {q : ℕ} {f : Field} → field_at s p ≡ item f q → length s - q < length s - p
 left-falls s p {q} {f} e = omega (arith, (fields-forward s).moves p q f e)
 
-pub no_field : (r : answer.Field) → OneOf (0 ∷ 1 ∷ 2 ∷ []) (tag_of the_type r) → (x : MessageEnd) × (field_of r ≡ last x)
+pub no_field : (r : answer.Field) → ((t value start len next : ℕ) → r ≡ variant.Read t value start len next → ⊥) → (x : MessageEnd) × (field_of r ≡ last x)
 no_field variant.Complete h = (complete, refl)
 no_field (variant.Cut n) h = (cut n, refl)
 no_field (variant.Spoilt t n) h = (spoilt (split t) n, refl)
-no_field (variant.Read t value start len next) h = absurd (⊎_elim (λ e. omega arith) (λ o. ⊎_elim (λ e. omega arith) (λ e. omega arith) o) h)
+no_field (variant.Read t value start len next) h = absurd (h t value start len next refl)

@@ -4,8 +4,6 @@ use mathlib.Core.List.{[], ◌∷◌}
 use mathlib.Core.Logic.{⊎_elim}
 use mathlib.Core.Bool.{Bool, true, false, not}
 use native.Mathlib.Omega.{arith}
-use denote.Enum.Declared.{tag_of}
-use types.Run.{OneOf}
 use Rattle.protobuf.proofs.laws.Read.{says}
 use Rattle.fields.specs.Outcome.{Outcome, kept}
 use Rattle.fields.proofs.laws.Part.{refuted, confirmed}
@@ -19,11 +17,11 @@ pub goes_on : {x : Compared} {o others answer : Outcome Bool} → compared_of x 
 goes_on {others = others} e same g = g ∙ ap (λ (o : Outcome Bool). and_same o others) (sym (says compared_of e same))
 
 -- a difference or a number is the answer
-pub stops : (x : Compared) {o : Outcome Bool} (others : Outcome Bool) → OneOf (1 ∷ 2 ∷ []) (tag_of the_type x) → compared_of x ≡ o → compared_of x ≡ and_same o others
+pub stops : (x : Compared) {o : Outcome Bool} (others : Outcome Bool) → (x ≡ compared.Same → ⊥) → compared_of x ≡ o → compared_of x ≡ and_same o others
 stops x others h e = by x h ∙ ap (λ (o : Outcome Bool). and_same o others) e
   where
-    by : (x : Compared) → OneOf (1 ∷ 2 ∷ []) (tag_of the_type x) → compared_of x ≡ and_same (compared_of x) others
-    by compared.Same h = absurd (⊎_elim (λ e. omega arith) (λ e. omega arith) h)
+    by : (x : Compared) → (x ≡ compared.Same → ⊥) → compared_of x ≡ and_same (compared_of x) others
+    by compared.Same h = absurd (h refl)
     by compared.Differ h = refl
     by (compared.Refused n) h = refl
 

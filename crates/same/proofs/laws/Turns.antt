@@ -5,13 +5,17 @@ use mathlib.Core.List.{List, [], ◌∷◌}
 use mathlib.Core.Logic.{⊎_elim}
 use mathlib.Core.Bool.{Bool}
 use native.Mathlib.Omega.{arith}
-use denote.Enum.Declared.{tag_of}
-use types.Run.{OneOf}
 use Rattle.protobuf.specs.declared.refusal.Refusal.{Refusal}
 use Rattle.protobuf.specs.Stream.{end, more}
 use Rattle.protobuf.specs.Column.{ended, cut, Column}
 use Rattle.fields.specs.Outcome.{Outcome}
 use Rattle.wire.specs.declared.record.WireBlock.{WireBlock}
+use lib.IntN.{ℤ}
+use Rattle.elements.specs.declared.tags.Tag.{Tag}
+use Rattle.elements.specs.declared.tags.TagIter.{TagIter}
+use Rattle.elements.specs.declared.references.WayRefIter.{WayRefIter}
+use Rattle.elements.specs.declared.members.RelMember.{RelMember}
+use Rattle.elements.specs.declared.members.RelMemberIter.{RelMemberIter}
 use Rattle.elements.specs.declared.tags.TagIterStep.{TagIterStep}
 use Rattle.elements.specs.declared.tags.TagIterStep.TheVariants as tag
 use Rattle.elements.specs.declared.references.WayRefStep.{WayRefStep}
@@ -21,9 +25,6 @@ use Rattle.elements.specs.declared.members.RelMemberStep.TheVariants as member
 use Rattle.elements.specs.Tags.{tag_said}
 use Rattle.elements.specs.References.{ref_said}
 use Rattle.elements.specs.Members.{member_said}
-use Rattle.elements.specs.contracts.tags.TagIterStep as tag-type
-use Rattle.elements.specs.contracts.references.WayRefStep as reference-type
-use Rattle.elements.specs.contracts.members.RelMemberStep as member_type
 use Rattle.walk.specs.Same.{same_stream}
 use Rattle.same.specs.declared.turns.Turn.{Turn}
 use Rattle.same.specs.declared.turns.Turn.TheVariants as turn
@@ -44,6 +45,7 @@ pub data Silent : Turn → Type 0 where
 module _ {A B : Type 0} (same : A → B → Outcome Bool) where
   by_first : {c : Column A} {d : Column B} {x y : Turn} → Says c x → Says d y → Silent x → ends_of x y ≡ same_stream same c d
   unfolding same_stream
+  by_first hands s h = elim h [ ]
   by_first is-over hands at-end = refl
   by_first is-over is-over at-end = refl
   by_first is-over is_cut at-end = refl
@@ -51,6 +53,7 @@ module _ {A B : Type 0} (same : A → B → Outcome Bool) where
 
   by-second : (a : A) (rest : Column A) {d : Column B} {y : Turn} → Says d y → Silent y → ends_of turn.Hands y ≡ same_stream same (more a rest) d
   unfolding same_stream
+  by-second a rest hands h = elim h [ ]
   by-second a rest is-over at-end = refl
   by-second a rest is_cut at-number = refl
 
@@ -69,8 +72,8 @@ tag-says s r (tag.Tag t next) = hands
 tag-says s r (tag.Ended next) = is-over
 tag-says s r (tag.Refused n next) = is_cut
 
-pub tag_silent : (p : TagIterStep) → OneOf (1 ∷ 2 ∷ []) (tag_of tag-type.the_type p) → Silent (tag_turn p)
-tag_silent (tag.Tag t next) h = absurd (⊎_elim (λ e. omega arith) (λ e. omega arith) h)
+pub tag_silent : (p : TagIterStep) → ((t : Tag) (next : TagIter) → p ≡ tag.Tag t next → ⊥) → Silent (tag_turn p)
+tag_silent (tag.Tag t next) h = absurd (h t next refl)
 tag_silent (tag.Ended next) h = at-end
 tag_silent (tag.Refused n next) h = at-number
 
@@ -79,8 +82,8 @@ ref-says s (reference.Ref id next) = hands
 ref-says s (reference.Ended next) = is-over
 ref-says s (reference.Refused n next) = is_cut
 
-pub ref_silent : (p : WayRefStep) → OneOf (1 ∷ 2 ∷ []) (tag_of reference-type.the_type p) → Silent (ref_turn p)
-ref_silent (reference.Ref id next) h = absurd (⊎_elim (λ e. omega arith) (λ e. omega arith) h)
+pub ref_silent : (p : WayRefStep) → ((id : ℤ) (next : WayRefIter) → p ≡ reference.Ref id next → ⊥) → Silent (ref_turn p)
+ref_silent (reference.Ref id next) h = absurd (h id next refl)
 ref_silent (reference.Ended next) h = at-end
 ref_silent (reference.Refused n next) h = at-number
 
@@ -89,7 +92,7 @@ member-says s r (member.Member m next) = hands
 member-says s r (member.Ended next) = is-over
 member-says s r (member.Refused n next) = is_cut
 
-pub member_silent : (p : RelMemberStep) → OneOf (1 ∷ 2 ∷ []) (tag_of member_type.the_type p) → Silent (member_turn p)
-member_silent (member.Member m next) h = absurd (⊎_elim (λ e. omega arith) (λ e. omega arith) h)
+pub member_silent : (p : RelMemberStep) → ((m : RelMember) (next : RelMemberIter) → p ≡ member.Member m next → ⊥) → Silent (member_turn p)
+member_silent (member.Member m next) h = absurd (h m next refl)
 member_silent (member.Ended next) h = at-end
 member_silent (member.Refused n next) h = at-number

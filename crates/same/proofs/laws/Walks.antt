@@ -6,8 +6,6 @@ use mathlib.Core.List.{List, [], ◌∷◌}
 use mathlib.Core.Logic.{⊎_elim}
 use mathlib.Core.Bool.{Bool, true, false}
 use native.Mathlib.Omega.{arith}
-use denote.Enum.Declared.{tag_of}
-use types.Run.{OneOf}
 use Rattle.protobuf.specs.declared.refusal.Refusal.TheVariants.{Outside}
 use Rattle.numbers.specs.Choose.{choose}
 use Rattle.protobuf.specs.Stream.{end, more}
@@ -69,8 +67,8 @@ element-says s (said.Element group message element) behind = hands
 element-says s said.Ended behind = is-over
 element-says s (said.Refused n) behind = is_cut
 
-pub element_silent : (x : Said) → OneOf (1 ∷ 2 ∷ []) (tag_of Said-type.the_type x) → Silent (element_turn x)
-element_silent (said.Element group message element) h = absurd (⊎_elim (λ e. omega arith) (λ e. omega arith) h)
+pub element_silent : (x : Said) → ((group : ℕ) (message : Part) (element : Element) → x ≡ said.Element group message element → ⊥) → Silent (element_turn x)
+element_silent (said.Element group message element) h = absurd (h group message element refl)
 element_silent said.Ended h = at-end
 element_silent (said.Refused n) h = at-number
 
@@ -81,8 +79,8 @@ others-on (kept true) others e = refl
 others-on (kept false) others e = absurd (let z : ◌≡◌ {A = ℕ} 0 1 = cc in omega arith)
 others-on (refused n) others e = absurd (let z : ◌≡◌ {A = ℕ} 0 1 = cc in omega arith)
 
-others_off : (o others : Outcome Bool) (r : Compared) → OneOf (1 ∷ 2 ∷ []) (tag_of the_type r) → compared_of r ≡ and_same o (kept true) → compared_of r ≡ and_same o others
-others_off (kept true) others compared.Same h e = absurd (⊎_elim (λ z. omega arith) (λ z. omega arith) h)
+others_off : (o others : Outcome Bool) (r : Compared) → (r ≡ compared.Same → ⊥) → compared_of r ≡ and_same o (kept true) → compared_of r ≡ and_same o others
+others_off (kept true) others compared.Same h e = absurd (h refl)
 others_off (kept true) others compared.Differ h e = absurd (let z : ◌≡◌ {A = ℕ} 0 1 = cc in omega arith)
 others_off (kept true) others (compared.Refused n) h e = absurd (let z : ◌≡◌ {A = ℕ} 0 1 = cc in omega arith)
 others_off (kept false) others r h e = e
@@ -104,7 +102,7 @@ module _ (same : Found → Found → Outcome Bool) (s t : List ℕ) where
   two_said g h m n e f = and-no-more _
 
   -- a difference or a number is told, whatever is behind
-  pub said-stops : (x y : Said) (c d : Column Found) (r : Compared) → OneOf (1 ∷ 2 ∷ []) (tag_of the_type r) → compared_of r ≡ same_said same s x t y → compared_of r ≡ same_stream same (said_then s x c) (said_then t y d)
+  pub said-stops : (x y : Said) (c d : Column Found) (r : Compared) → (r ≡ compared.Same → ⊥) → compared_of r ≡ same_said same s x t y → compared_of r ≡ same_stream same (said_then s x c) (said_then t y d)
   unfolding same_stream
   said-stops (said.Refused n) y c d r h e = e
   said-stops said.Ended (said.Refused n) c d r h e = e
@@ -116,9 +114,9 @@ module _ (same : Found → Found → Outcome Bool) (s t : List ℕ) where
       others_off (same (found_by s g m f) (found_by t g' m' f')) (same_stream same c d) r h e
 
   -- the same with no element: both have ended
-  pub said-ends : (x y : Said) (c d : Column Found) → OneOf (1 ∷ 2 ∷ []) (tag_of Said-type.the_type x) → same_said same s x t y ≡ kept true → kept true ≡ same_stream same (said_then s x c) (said_then t y d)
+  pub said-ends : (x y : Said) (c d : Column Found) → ((group : ℕ) (message : Part) (element : Element) → x ≡ said.Element group message element → ⊥) → same_said same s x t y ≡ kept true → kept true ≡ same_stream same (said_then s x c) (said_then t y d)
   unfolding same_stream
-  said-ends (said.Element g m f) y c d h e = absurd (⊎_elim (λ z. omega arith) (λ z. omega arith) h)
+  said-ends (said.Element g m f) y c d h e = absurd (h g m f refl)
   said-ends (said.Refused n) y c d h e = sym e
   said-ends said.Ended (said.Refused n) c d h e = sym e
   said-ends said.Ended said.Ended c d h e = sym e

@@ -5,8 +5,6 @@ use mathlib.Core.Path.{◌≡◌, refl, sym, ◌∙◌}
 use mathlib.Core.List.{List, [], ◌∷◌}
 use mathlib.Core.Bool.{false}
 use mathlib.Core.Logic.{⊎_elim}
-use denote.Enum.Declared.{tag_of}
-use types.Run.{OneOf}
 use lib.ListN.{length}
 use lib.Dec.{lit<}
 use borrow.Author.Tests.{eq-eqb, ne_eqb}
@@ -67,7 +65,7 @@ module _ (slot : List ℕ) (room : 40 ≤ length slot) where
       ∙ (λ i. iter.KeysVals (record { at = back 1 (lit< tt) at i; end = back 2 (lit< tt) end i }))
 
 -- a state by the arm of a `match` that takes all but the ended one
-pub tags_going : (w : TagIter) → OneOf (1 ∷ 2 ∷ []) (tag_of the_type w) → tags_over w ≡ false
-tags_going iter.Ended h = absurd (⊎_elim (λ e. omega arith) (λ e. omega arith) h)
+pub tags_going : (w : TagIter) → (w ≡ iter.Ended → ⊥) → tags_over w ≡ false
+tags_going iter.Ended h = absurd (h refl)
 tags_going (iter.Columns c) h = refl
 tags_going (iter.KeysVals c) h = refl

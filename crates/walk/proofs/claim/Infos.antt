@@ -4,8 +4,8 @@ use Prim.Native.Nat.{ℕ}
 use mathlib.Core.Option.{none, some}
 use lib.IntN.{ℤ}
 use Rattle.protobuf.specs.Stream.{end, more}
-use Rattle.protobuf.specs.Column.{ended, Column}
-use Rattle.block.specs.Infos.{Info, Infos, NextInfo, present, missing, read_next, visible_info, user_info, next_info}
+use Rattle.protobuf.specs.Column.{ended, cut, Column}
+use Rattle.block.specs.Infos.{Info, Infos, NextInfo, stopped, present, missing, read_next, visible_info, user_info, next_info}
 use Rattle.elements.specs.Element.{RowInfo, unread, row}
 use Rattle.kinds.specs.Dense.{Metadata, by_info, read_info}
 use Rattle.walk.proofs.claim.Whole.{Whole, no-values, one_value, Ends}
@@ -25,6 +25,7 @@ pub data Reads : NextInfo → Type 0 where
 
 reads-next : {A : Type 0} (c : Column A) {n : ℕ} → Whole n c → (without : NextInfo) (with : A → Column A → NextInfo) → Reads without → ((a : A) (rest : Column A) → Ends rest → Reads (with a rest)) → Reads (read_next c without with)
 reads-next (end ended) no-values without with h on = h
+reads-next (end (cut _)) w without with h on = elim w [ ]
 reads-next (more a rest) (one_value w) without with h on = on a rest (record { count = _; whole = w })
 
 reads-visible : (version timestamp changeset uid user : ℤ) (x : Infos) → AllEnd x → Reads (visible_info version timestamp changeset uid user x)
@@ -60,5 +61,6 @@ by-info P not-read with on = on unread none not-read
 by-info P (all_read {x = x} h) with on = by (next_info x) (reads-info x h)
   where
     by : (y : NextInfo) → Reads y → P (by_info y with)
+    by (stopped _) k = elim k [ ]
     by (present i rest) (has_info k) = on (row (some i)) (some rest) (all_read k)
     by (missing rest) (no-info k) = on (row none) (some rest) (all_read k)

@@ -37,6 +37,7 @@ module _ {W A I : Type 0} (says : A → Says I) (after : A → W) (ahead : W →
         known e = subst (λ (c : Column I). Streams Is c items) (sym (right w a post).said ∙ ap (λ (x : Says I). followed x (ahead (after a))) e) h
 
         one : (i : I) (c : Column I) (items : List J) → ((items : List J) → Streams Is c items → Hands says Is answers items) → says a ≡ gives i → Streams Is (more i c) items → Hands says Is (a ∷ answers) items
+        one i c [] on e h = elim h [ ]
         one i c (j ∷ items) on e (one_more is others) = hands-one e is (on items others)
 
         none : (items : List J) → (Streams Is (end ended) [] → Hands says Is answers []) → says a ≡ over → Streams Is (end ended) items → Hands says Is (a ∷ answers) items

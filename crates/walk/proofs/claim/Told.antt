@@ -16,7 +16,7 @@ use Rattle.fields.specs.Schema.{info}
 use Rattle.fields.specs.View.{Slots, view}
 use Rattle.views.specs.Info.{info_fields, info_of}
 use Rattle.wire.specs.declared.record.WireBlock.{WireBlock}
-use Rattle.block.specs.Infos.{Info, Infos, NextInfo, present, missing, next_info}
+use Rattle.block.specs.Infos.{Info, Infos, NextInfo, stopped, present, missing, next_info}
 use Rattle.block.specs.Strings.{Text}
 use Rattle.block.specs.Stored.{slots_of}
 use Rattle.block.specs.Tags.{Pair, NodePairs, take_pairs, dense_pairs}
@@ -82,6 +82,7 @@ module _ (s : List ℕ) (group : ℕ) (message : Part) where
         (one_more refl (behind rest k))
 
     row_told : (y : NextInfo) → Reads y → HandsOut (by_info y (node_then x rows c)) (info_then y (node_infos count))
+    row_told (stopped _) k = elim k [ ]
     row_told (present i rest) (has_info k) = node-told (some i) rest k
     row_told (missing rest) (no-info k) = node-told none rest k
 

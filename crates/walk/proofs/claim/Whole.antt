@@ -5,6 +5,7 @@ use mathlib.Core.Path.{◌≡◌, refl, ap, subst}
 use native.Mathlib.Omega.{arith}
 use lib.IntN.{ℤ, pos}
 use lib.ListN.{length}
+use Rattle.numbers.specs.Signed.{wrapping_add}
 use Rattle.protobuf.specs.Stream.{end, more, mapped}
 use Rattle.protobuf.specs.Column.{ended, cut, Column, sint64s, sums_from, sums}
 use Rattle.fields.specs.Outcome.{kept}
@@ -42,7 +43,7 @@ whole-mapped f (one_value w) = one_value (whole-mapped f w)
 pub whole-sums : (width : ℕ) (sum : ℤ) {n : ℕ} {c : Column ℤ} → Whole n c → Whole n (sums_from width sum c)
 unfolding sums_from
 whole-sums width sum no-values = no-values
-whole-sums width sum (one_value w) = one_value (whole-sums width _ w)
+whole-sums width sum (one_value {a = a} w) = one_value (whole-sums width (wrapping_add width sum a) w)
 
 -- a column of differences
 pub whole-summed : {n : ℕ} {c : Column ℕ} → Whole n c → Whole n (sums 64 (sint64s c))

@@ -8,8 +8,6 @@ use mathlib.Core.Logic.{⊎_elim}
 use native.Mathlib.Omega.{arith}
 use lib.Dec.{ltb}
 use borrow.Author.Tests.{ltb-true}
-use denote.Enum.Declared.{tag_of}
-use types.Run.{OneOf}
 use Rattle.protobuf.specs.declared.refusal.Refusal.{Refusal}
 use Rattle.protobuf.specs.declared.refusal.Refusal.TheVariants.{Outside}
 use Rattle.protobuf.specs.Stream.{end}
@@ -124,16 +122,16 @@ module _ (s : List ℕ) (r : WireBlock) (w : BlockElementsIter) where
     both-inside h = simp (tables, h)
 
 -- only plain dense nodes stay
-pub not-dense : (r : WireBlock) (w : BlockElementsIter) → OneOf (0 ∷ 1 ∷ 3 ∷ 4 ∷ []) (tag_of the_type w) → turns_within r w ≡ left r w
+pub not-dense : (r : WireBlock) (w : BlockElementsIter) → ((d : DenseNodeIter) → w ≡ walk.DenseNodes d → ⊥) → turns_within r w ≡ left r w
 not-dense r walk.Ended h = refl
 not-dense r (walk.Between b) h = refl
-not-dense r (walk.DenseNodes d) h = absurd (⊎_elim (λ e. omega arith) (λ o. ⊎_elim (λ e. omega arith) (λ p. ⊎_elim (λ e. omega arith) (λ e. omega arith) p) o) h)
+not-dense r (walk.DenseNodes d) h = absurd (h d refl)
 not-dense r (walk.FullDenseNodes d) h = refl
 not-dense r (walk.Messages m) h = refl
 
 -- only an ended walk is not tested
-pub not-ended : (s : List ℕ) (r : WireBlock) (w : BlockElementsIter) → OneOf (1 ∷ 2 ∷ 3 ∷ 4 ∷ []) (tag_of the_type w) → tested_from s r w ≡ elements_from s r w
-not-ended s r walk.Ended h = absurd (⊎_elim (λ e. omega arith) (λ o. ⊎_elim (λ e. omega arith) (λ p. ⊎_elim (λ e. omega arith) (λ e. omega arith) p) o) h)
+pub not-ended : (s : List ℕ) (r : WireBlock) (w : BlockElementsIter) → (w ≡ walk.Ended → ⊥) → tested_from s r w ≡ elements_from s r w
+not-ended s r walk.Ended h = absurd (h refl)
 not-ended s r (walk.Between b) h = refl
 not-ended s r (walk.DenseNodes d) h = refl
 not-ended s r (walk.FullDenseNodes d) h = refl

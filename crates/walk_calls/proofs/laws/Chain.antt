@@ -8,7 +8,7 @@ use mathlib.Core.Bool.{Bool, true, false}
 use lib.ListN.{length}
 use borrow.Author.Tests.{le-leb}
 use Rattle.protobuf.specs.Stream.{end, more}
-use Rattle.protobuf.specs.Column.{ended, Column}
+use Rattle.protobuf.specs.Column.{ended, cut, Column}
 use Rattle.answers.specs.Words.{filled}
 use Rattle.answers.proofs.laws.Words.{filled-length}
 use Rattle.calls.specs.Calls.{first, past, answered, Call, call_by, answer_code, call_code, given_by, items_of, AnswerLeft, SlotLeft}
@@ -53,6 +53,9 @@ module _ {W A B : Type 0} (width : ℕ) (state_at : List ℕ → W) (stateWords 
     asked n (end ended) [] all-out code items left =
         let there : state_at a.slot ≡ over = ap state_at left ∙ back slot long in
         hands_end code items (goes_on (ap ahead there ∙ ends over is-over) [] all-out (same-long (stateWords over) left))
+    asked n (end ended) (b ∷ bs) h code items left = elim h [ ]
+    asked n (end (cut _)) items' h code items left = elim h [ ]
+    asked n (more x c) [] h code items left = elim h [ ]
     asked n (more x c) (b ∷ bs) (one_more is h) code items left =
         let f = front n h in
         subst (λ (l : List B). HandsAll Is (a ∷ answers) (b ∷ l)) (sym f.whole)

@@ -4,8 +4,6 @@ use Prim.Native.Nat.{ℕ, suc, ◌+◌, ◌*◌, ◌≤◌, ◌<◌}
 use mathlib.Core.Path.{◌≡◌, refl, sym, ap, ◌∙◌, subst}
 use mathlib.Core.List.{List, [], ◌∷◌}
 use mathlib.Core.Logic.{⊎_elim}
-use denote.Enum.Declared.{tag_of}
-use types.Run.{OneOf}
 use mathlib.Core.Bool.{Bool, true, false}
 use native.Mathlib.Omega.{arith}
 use lib.ListN.{length}
@@ -27,7 +25,6 @@ use Rattle.walk.specs.declared.block_elements.ElementStep.{ElementStep}
 use Rattle.walk.specs.Walk.{Found, said_then, elements_from, element_said, fresh}
 use Rattle.walk_slots.specs.declared.slot.PhaseIn.{PhaseIn}
 use Rattle.walk_slots.specs.declared.slot.PhaseIn.TheVariants as phase
-use Rattle.walk_slots.specs.contracts.slot.PhaseIn.{the_type as phase-type}
 use Rattle.walk_slots.specs.Slot.{walk_words, walk_at, walk_by}
 use Rattle.numbers.specs.Choose.{choose}
 use Rattle.answers.specs.Words.{filled, filled_at}
@@ -87,7 +84,7 @@ module _ (slot : List ℕ) where
 -- ---- a call without a record
 
 -- a phase that is not the ended one
-phase_going : (slot : List ℕ) (p : PhaseIn) → (tag_of phase-type p ≡ 0 → ⊥) → walk_over (walk_by slot p) ≡ false
+phase_going : (slot : List ℕ) (p : PhaseIn) → (p ≡ phase.Ended → ⊥) → walk_over (walk_by slot p) ≡ false
 phase_going slot phase.Ended h = absurd (h refl)
 phase_going slot (phase.Between b) h = refl
 phase_going slot phase.DenseNodes h = refl
@@ -95,18 +92,18 @@ phase_going slot phase.FullDenseNodes h = refl
 phase_going slot (phase.Messages m) h = refl
 
 module _ (slot : List ℕ) (p : PhaseIn) (there : walk_by slot p ≡ walk_at slot) where
-  pub going_on : OneOf (1 ∷ 3 ∷ []) (tag_of phase-type p) → walk_over (walk_at slot) ≡ false
-  going_on h = sym (ap walk_over there) ∙ phase_going slot p (λ z. ⊎_elim (λ e. omega arith) (λ e. omega arith) h)
+  pub going_on : (p ≡ phase.Ended → ⊥) → walk_over (walk_at slot) ≡ false
+  going_on h = sym (ap walk_over there) ∙ phase_going slot p h
 
   pub none-ended : p ≡ phase.Ended → RefusedInto slot 101 slot
   none-ended e = record { by = subst (λ (b : Bool). RefusedWhere b slot 101 slot) (ap (λ (x : PhaseIn). walk_over (walk_by slot x)) (sym e) ∙ ap walk_over there) (refl, refl) }
 
-  pub none-put : OneOf (1 ∷ 2 ∷ 3 ∷ 4 ∷ []) (tag_of phase-type p) → {left : List ℕ} → left ≡ filled slot (walk_words walk.Ended) → walk_at left ≡ walk.Ended → RefusedInto slot 14 left
+  pub none-put : (p ≡ phase.Ended → ⊥) → {left : List ℕ} → left ≡ filled slot (walk_words walk.Ended) → walk_at left ≡ walk.Ended → RefusedInto slot 14 left
   none-put h {left} e back =
       record {
         by =
             subst (λ (b : Bool). RefusedWhere b slot 14 left)
-            (sym (phase_going slot p (λ z. ⊎_elim (λ e. omega arith) (⊎_elim (λ e. omega arith) (⊎_elim (λ e. omega arith) (λ e. omega arith))) h)) ∙ ap walk_over there)
+            (sym (phase_going slot p h) ∙ ap walk_over there)
             (refl, (e, back));
       }
 

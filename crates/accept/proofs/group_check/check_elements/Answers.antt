@@ -16,7 +16,7 @@ pub loop-t-init : goal.loop-t-init
 loop-t-init c = passing_begins _ _ _ c.requires
 
 pub returns-in_default : goal.returns-in_default
-returns-in_default c = sym (passing-ends c.loop-t.invariant (sym c.next_field-f.ensures ∙ (no_field c.next_field-f.result c.in_default.in_default-own.keys2).1))
+returns-in_default c = sym (passing-ends c.loop-t.invariant (sym c.next_field-f.ensures ∙ (no_field c.next_field-f.result c.in_default.not-Read).1))
 
 pub overflow_add-end : goal.overflow_add-end
 overflow_add-end c = omega (arith, passing-within c.loop-t.invariant _ (says field_of c.next_field-f.ensures c.in-Read.is))

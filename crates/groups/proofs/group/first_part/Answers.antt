@@ -13,7 +13,7 @@ pub loop-tag-init : goal.loop-tag-init
 loop-tag-init c = seek_begins _ _ _
 
 pub returns-in_default : goal.returns-in_default
-returns-in_default c = seek_ends _ _ _ c.loop-tag.invariant (sym c.next_field-f.ensures ∙ (no_field c.next_field-f.result c.in_default.in_default-own.keys2).1)
+returns-in_default c = seek_ends _ _ _ c.loop-tag.invariant (sym c.next_field-f.ensures ∙ (no_field c.next_field-f.result c.in_default.not-Read).1)
 
 pub returns-then-is_message : goal.returns-then-is_message
 returns-then-is_message c = seek_finds _ _ _ c.loop-tag.invariant (says field_of c.next_field-f.ensures c.in-Read.is) (sym c.is_message.ensures ∙ c.if-is_message.true)

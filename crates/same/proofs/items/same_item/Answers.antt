@@ -20,7 +20,7 @@ returns-in_default c =
     let x = ap (tags_from a.first.now a.a) c.new.ensures ∙ tags-start a.first.now a.a c.requires.0 a.e in
     let y = ap (tags_from a.second.now a.b) c.new-2.ensures ∙ tags-start a.second.now a.b c.requires.1 a.f in
     c.same_tags-tags.ensures ∙ λ i. same_stream (same_tag a.first.now a.a a.second.now a.b) (x i) (y i) in
-    stops c.same_tags-tags.result _ c.in_default.in_default-own.keys2 tags
+    stops c.same_tags-tags.result _ c.in_default.not-Same tags
 
 pub returns-in_default-references : goal.returns-in_default-references
 returns-in_default-references c =
@@ -36,7 +36,7 @@ returns-in_default-references c =
     let x = ap (refs_from a.first.now) c.new-3.ensures ∙ references-start a.first.now a.e in
     let y = ap (refs_from a.second.now) c.new-4.ensures ∙ references-start a.second.now a.f in
     c.same_refs-references.ensures ∙ λ i. same_stream (same_ref a.first.now a.a a.second.now a.b) (x i) (y i) in
-    goes_on tags c.in-Same.is (stops c.same_refs-references.result _ c.in_default-references.in_default-references-own.keys2 references)
+    goes_on tags c.in-Same.is (stops c.same_refs-references.result _ c.in_default-references.not-Same references)
 
 pub returns : goal.returns
 returns c =

@@ -21,7 +21,7 @@ returns-in_default c =
     let x = returned w32 {r = a.x.role} c.struct_told-1.given.0.1 refl in
     let y = returned w32 {r = a.y.role} c.struct_told-2-1.given.0.1 refl in
     c.same_role-roles.ensures ∙ λ i. same_roles (text_of a.first.now (role_at a.first.now a.a (x i))) (text_of a.second.now (role_at a.second.now a.b (y i))) in
-    stops c.same_role-roles.result _ c.in_default.in_default-own.keys2 roles ∙ roles-first _ _ _
+    stops c.same_role-roles.result _ c.in_default.not-Same roles ∙ roles-first _ _ _
 
 pub returns : goal.returns
 returns c =

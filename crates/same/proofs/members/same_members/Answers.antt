@@ -21,7 +21,7 @@ returns-in_default c =
     (member_said s.second.now s.b c.step-q.result) =
     both_step c.loop-member.invariant c.step-p.ensures.says c.step-q.ensures.says in
     let p = c.step-p.result in
-    first_ends stepped (member-says _ _ p) (member-says _ _ c.step-q.result) (member_silent p c.in_default.in_default-own.keys2)
+    first_ends stepped (member-says _ _ p) (member-says _ _ c.step-q.result) (member_silent p c.in_default.not-Member)
     c.turn.ensures c.turn-in_default.ensures c.ends.ensures
 
 pub returns-in_default-q : goal.returns-in_default-q
@@ -34,7 +34,7 @@ returns-in_default-q c =
     (member_said s.second.now s.b c.step-q.result) =
     both_step c.loop-member.invariant c.step-p.ensures.says c.step-q.ensures.says in
     let q = c.step-q.result in
-    second-ends stepped (ap (member_said _ _) c.in-Member.is) (member-says _ _ q) (member_silent q c.in_default-q.in_default-q-own.keys2)
+    second-ends stepped (ap (member_said _ _) c.in-Member.is) (member-says _ _ q) (member_silent q c.in_default-q.not-Member)
     c.turn-in_default-q.ensures c.ends-in_default-q.ensures
 
 pub returns-in_default-compared : goal.returns-in_default-compared
@@ -46,7 +46,7 @@ returns-in_default-compared c =
     (member_said s.first.now s.a c.step-p.result)
     (member_said s.second.now s.b c.step-q.result) =
     both_step c.loop-member.invariant c.step-p.ensures.says c.step-q.ensures.says in
-    stops c.same_member-compared.result _ c.in_default-compared.in_default-compared-own.keys2 c.same_member-compared.ensures
+    stops c.same_member-compared.result _ c.in_default-compared.not-Same c.same_member-compared.ensures
     ∙ both_hand stepped (ap (member_said _ _) c.in-Member.is) (ap (member_said _ _) c.in-Member-q.is)
 
 pub loop-member-smaller : goal.loop-member-smaller

@@ -23,7 +23,7 @@ returns-in_default c =
     (ref_said s.second.now c.step-q.result) =
     both_step c.loop-id.invariant c.step-p.ensures.says c.step-q.ensures.says in
     let p = c.step-p.result in
-    first_ends stepped (ref-says _ p) (ref-says _ c.step-q.result) (ref_silent p c.in_default.in_default-own.keys2)
+    first_ends stepped (ref-says _ p) (ref-says _ c.step-q.result) (ref_silent p c.in_default.not-Ref)
     c.turn.ensures c.turn-in_default.ensures c.ends.ensures
 
 pub returns-in_default-q : goal.returns-in_default-q
@@ -36,7 +36,7 @@ returns-in_default-q c =
     (ref_said s.second.now c.step-q.result) =
     both_step c.loop-id.invariant c.step-p.ensures.says c.step-q.ensures.says in
     let q = c.step-q.result in
-    second-ends stepped (ap (ref_said _) c.in-Ref.is) (ref-says _ q) (ref_silent q c.in_default-q.in_default-q-own.keys2)
+    second-ends stepped (ap (ref_said _) c.in-Ref.is) (ref-says _ q) (ref_silent q c.in_default-q.not-Ref)
     c.turn-in_default-q.ensures c.ends-in_default-q.ensures
 
 pub returns-then-not-same_i64 : goal.returns-then-not-same_i64

@@ -22,7 +22,7 @@ returns-in_default c =
     (tag_said s.second.now s.b c.step-q.result) =
     both_step c.loop-tag.invariant c.step-p.ensures.says c.step-q.ensures.says in
     let p = c.step-p.result in
-    first_ends stepped (tag-says _ _ p) (tag-says _ _ c.step-q.result) (tag_silent p c.in_default.in_default-own.keys2)
+    first_ends stepped (tag-says _ _ p) (tag-says _ _ c.step-q.result) (tag_silent p c.in_default.not-Tag)
     c.turn.ensures c.turn-in_default.ensures c.ends.ensures
 
 pub returns-in_default-q : goal.returns-in_default-q
@@ -35,7 +35,7 @@ returns-in_default-q c =
     (tag_said s.second.now s.b c.step-q.result) =
     both_step c.loop-tag.invariant c.step-p.ensures.says c.step-q.ensures.says in
     let q = c.step-q.result in
-    second-ends stepped (ap (tag_said _ _) c.in-Tag.is) (tag-says _ _ q) (tag_silent q c.in_default-q.in_default-q-own.keys2)
+    second-ends stepped (ap (tag_said _ _) c.in-Tag.is) (tag-says _ _ q) (tag_silent q c.in_default-q.not-Tag)
     c.turn-in_default-q.ensures c.ends-in_default-q.ensures
 
 pub same_tag-requires : goal.same_tag-requires

@@ -47,7 +47,7 @@ returns-in_default c =
     said-is s.second.now s.b c.step-q.result ∙ c.step-q.ensures.answer.says in
     let x = c.step-p.result.said in
     let y = c.step-q.result.said in
-    said-stops _ _ _ x y _ _ c.same_said-compared.result c.in_default.in_default-own.keys2 c.same_said-compared.ensures
+    said-stops _ _ _ x y _ _ c.same_said-compared.result c.in_default.not-Same c.same_said-compared.ensures
     ∙ both_say c.loop-compared.invariant (sym first_said) (sym second-said)
 
 pub returns-in_default-x : goal.returns-in_default-x
@@ -64,7 +64,7 @@ returns-in_default-x c =
     said-is s.second.now s.b c.step-q.result ∙ c.step-q.ensures.answer.says in
     let x = c.step-p.result.said in
     let y = c.step-q.result.said in
-    said-ends _ _ _ x y _ _ c.in_default-x.in_default-x-own.keys2 (says compared_of c.same_said-compared.ensures c.in-Same.is)
+    said-ends _ _ _ x y _ _ c.in_default-x.not-Element (says compared_of c.same_said-compared.ensures c.in-Same.is)
     ∙ both_say c.loop-compared.invariant (sym first_said) (sym second-said)
 
 pub loop-compared-smaller : goal.loop-compared-smaller

@@ -16,14 +16,14 @@ returns-in_default c =
     let a = c.args in
     let x = element-says a.first.now a.x (end ended) in
     let y = element-says a.second.now a.y (end ended) in
-    first_ends (set_out _ _ _) x y (element_silent a.x c.in_default.in_default-own.keys2) c.turn.ensures c.turn-in_default.ensures c.ends.ensures
+    first_ends (set_out _ _ _) x y (element_silent a.x c.in_default.not-Element) c.turn.ensures c.turn-in_default.ensures c.ends.ensures
 
 pub returns-in_default-y : goal.returns-in_default-y
 returns-in_default-y c =
     let a = c.args in
     let hands = ap (λ (x : Said). said_then a.first.now x (end ended)) c.in-Element.is in
     let y = element-says a.second.now a.y (end ended) in
-    second-ends (set_out _ _ _) hands y (element_silent a.y c.in_default-y.in_default-y-own.keys2) c.turn-in_default-y.ensures c.ends-in_default-y.ensures
+    second-ends (set_out _ _ _) hands y (element_silent a.y c.in_default-y.not-Element) c.turn-in_default-y.ensures c.ends-in_default-y.ensures
 
 pub same_element-requires : goal.same_element-requires
 same_element-requires c = (

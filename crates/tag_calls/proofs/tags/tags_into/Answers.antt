@@ -16,4 +16,4 @@ returns-in-Ended c = call_ended _ tag_item (tags_in _ _) 48 iter.Ended tags_at t
 pub returns-in_default : goal.returns-in_default
 returns-in_default c = let put = c.put_tags.ensures in
     let long = c.if-slot-lt40.false in
-    call_asks _ tag_item (tags_in _ _) 48 iter.Ended tags_at tag_words tags_over 40 _ _ _ long c.tags_in-start.ensures put.after (put.back long) (tags_going c.tags_in-start.result c.in_default.in_default-own.keys2) c.tags_over-r.ensures
+    call_asks _ tag_item (tags_in _ _) 48 iter.Ended tags_at tag_words tags_over 40 _ _ _ long c.tags_in-start.ensures put.after (put.back long) (tags_going c.tags_in-start.result c.in_default.not-Ended) c.tags_over-r.ensures

@@ -7,12 +7,12 @@ use Rattle.walk.proofs.laws.Steps.{infos_in, full_refuses, full-moves, full-says
 use Rattle.walk.proofs.steps.walk_full_dense.Goals as goal
 
 pub returns-in-Refused : goal.returns-in-Refused
-returns-in-Refused c = full_refuses c.args.buffer.now c.args.block c.requires.0 c.args.d c.requires.1 c.move_refused.ensures (says (full_dense_said _ _) c.next_full_dense-r.ensures.says c.in-Refused.is)
+returns-in-Refused c = full_refuses c.args.buffer.now c.args.block c.requires.0 c.args.d c.requires.1 c.move_refused.ensures (says (full_dense_said c.args.buffer.now c.args.d.nodes.columns) c.next_full_dense-r.ensures.says c.in-Refused.is)
 
 pub returns-in-Ended : goal.returns-in-Ended
-returns-in-Ended c = full-moves c.args.buffer.now c.args.block c.requires.0 c.args.d c.requires.1 c.begin_kind.ensures (says (full_dense_said _ _) c.next_full_dense-r.ensures.says c.in-Ended.is)
+returns-in-Ended c = full-moves c.args.buffer.now c.args.block c.requires.0 c.args.d c.requires.1 c.begin_kind.ensures (says (full_dense_said c.args.buffer.now c.args.d.nodes.columns) c.next_full_dense-r.ensures.says c.in-Ended.is)
 
 pub returns-in-Node : goal.returns-in-Node
 returns-in-Node c =
     full-says c.args.buffer.now c.args.block c.requires.0 c.args.d c.requires.1 _ _ _ c.say_full.ensures (sym (ap (full_step_inside _) c.in-Node.is) ∙ c.next_full_dense-r.ensures.inside (infos_in c.args.buffer.now c.args.block c.requires.0 c.args.d c.requires.1))
-    (says (full_dense_said _ _) c.next_full_dense-r.ensures.says c.in-Node.is)
+    (says (full_dense_said c.args.buffer.now c.args.d.nodes.columns) c.next_full_dense-r.ensures.says c.in-Node.is)

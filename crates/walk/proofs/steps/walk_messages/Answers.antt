@@ -15,12 +15,12 @@ behind_kind-requires c =
     omega (arith, group-below a.buffer.now a.block a.m.of (messages-group a.buffer.now a.block c.requires.0 a.m c.requires.1))
 
 pub returns-in-Refused : goal.returns-in-Refused
-returns-in-Refused c = messages_refuse c.args.buffer.now c.args.block c.requires.0 c.args.m c.requires.1 c.move_refused.ensures (says (loose_said _ _) c.next_loose-r.ensures.says c.in-Refused.is)
+returns-in-Refused c = messages_refuse c.args.buffer.now c.args.block c.requires.0 c.args.m c.requires.1 c.move_refused.ensures (says (loose_said c.args.buffer.now c.args.m) c.next_loose-r.ensures.says c.in-Refused.is)
 
 pub returns-in-Ended : goal.returns-in-Ended
-returns-in-Ended c = messages_move c.args.buffer.now c.args.block c.requires.0 c.args.m c.requires.1 (c.move_to.ensures ∙ ap moves_to c.behind_kind.ensures) (says (loose_said _ _) c.next_loose-r.ensures.says c.in-Ended.is)
+returns-in-Ended c = messages_move c.args.buffer.now c.args.block c.requires.0 c.args.m c.requires.1 (c.move_to.ensures ∙ ap moves_to c.behind_kind.ensures) (says (loose_said c.args.buffer.now c.args.m) c.next_loose-r.ensures.says c.in-Ended.is)
 
 pub returns-in-Found : goal.returns-in-Found
 returns-in-Found c =
-    messages_say c.args.buffer.now c.args.block c.requires.0 c.args.m c.requires.1 _ _ _ c.say_message.ensures (sym (ap (place_inside _) c.in-Found.is) ∙ c.next_loose-r.ensures.inside)
-    (says (loose_said _ _) c.next_loose-r.ensures.says c.in-Found.is)
+    messages_say c.args.buffer.now c.args.block c.requires.0 c.args.m c.requires.1 _ _ _ c.say_message.ensures (sym (ap (place_inside c.args.m) c.in-Found.is) ∙ c.next_loose-r.ensures.inside)
+    (says (loose_said c.args.buffer.now c.args.m) c.next_loose-r.ensures.says c.in-Found.is)

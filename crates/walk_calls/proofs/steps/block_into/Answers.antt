@@ -20,5 +20,5 @@ messages_into-requires c = record { in_bounds = c.requires; m_value = sym (ap (w
 
 pub returns-in_default : goal.returns-in_default
 returns-in_default c = let i = c.state_into.ensures in
-    call_asks _ put_words (elements_from _ _) 208 walk.Ended walk_at walk_words walk_over 272 _ _ _ c.requires.0 c.walk_in-state.ensures i.put i.back (ap walk_over c.walk_in-state.ensures ∙ going_on _ c.phase_in-phase.result c.phase_in-phase.ensures c.in_default.in_default-own.keys4)
+    call_asks _ put_words (elements_from _ _) 208 walk.Ended walk_at walk_words walk_over 272 _ _ _ c.requires.0 c.walk_in-state.ensures i.put i.back (ap walk_over c.walk_in-state.ensures ∙ going_on _ c.phase_in-phase.result c.phase_in-phase.ensures c.in_default.not-Ended)
     (i.fills.on _ _ (fill_begins put_words (elements_from _ _) 208 c.walk_in-state.result _ c.requires.1))

@@ -14,4 +14,4 @@ returns-in-Ended c =
 pub returns-in_default : goal.returns-in_default
 returns-in_default c =
     let a = c.args in
-    record { answer = record { says = c.tested.ensures.says ∙ not-ended a.buffer.now a.block a.self c.in_default.in_default-own.keys2; behind = c.tested.ensures.behind }; whole = λ b n s r b' n' x y. whole x y }
+    record { answer = record { says = c.tested.ensures.says ∙ not-ended a.buffer.now a.block a.self c.in_default.not-Ended; behind = c.tested.ensures.behind }; whole = λ b n s r b' n' x y. whole x y }
