@@ -4,4 +4,3 @@ pub mod Codes
 pub mod Record
 pub mod Group
 pub mod Messages
-pub mod Worked

@@ -1,5 +1,5 @@
 -- What a scanned block must meet to be accepted, and what an accepted one says: its listing and its content (document 01, sections 3 and 4),
--- from its bytes alone. Worked blocks pin each clause. Read them in this order.
+-- from its bytes alone. Worked blocks, in proofs/, pin each clause. Read them in this order.
 pub mod Columns
 pub mod Tags
 pub mod Infos
@@ -10,7 +10,3 @@ pub mod Listing
 pub mod Metadata
 pub mod Content
 pub mod Spelled
-pub mod Worked
-pub mod Refused
-pub mod Stamped
-pub mod Unusual

@@ -3,4 +3,3 @@ pub mod Calls
 pub mod Filling
 pub mod Slots
 pub mod References
-pub mod Worked

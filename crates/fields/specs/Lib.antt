@@ -6,4 +6,3 @@ pub mod Parts
 pub mod View
 pub mod Schema
 pub mod Slot
-pub mod Worked

@@ -1,3 +1,2 @@
 -- The states and items of members through C.
 pub mod Members
-pub mod Worked

@@ -2,4 +2,3 @@
 pub mod Payload
 pub mod Message
 pub mod Answers
-pub mod Worked

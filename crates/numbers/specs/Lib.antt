@@ -3,4 +3,3 @@
 pub mod Choose
 pub mod Signed
 pub mod Little
-pub mod Worked

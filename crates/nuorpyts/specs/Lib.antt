@@ -5,4 +5,3 @@ pub mod Check
 pub mod Walks
 pub mod Chains
 pub mod Same
-pub mod Worked

@@ -7,4 +7,3 @@ pub mod Stream
 pub mod Column
 pub mod Short
 pub mod Answers
-pub mod Worked

@@ -1,3 +1,2 @@
 -- Where calls over an element's references, tags and members start.
 pub mod Starts
-pub mod Worked

@@ -1,3 +1,2 @@
 -- The states and items of tags through C.
 pub mod Tags
-pub mod Worked

@@ -7,4 +7,3 @@ pub mod Relation
 pub mod DenseNodes
 pub mod DenseInfo
 pub mod Info
-pub mod Worked

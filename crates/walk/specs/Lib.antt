@@ -8,4 +8,3 @@ pub mod Shows
 pub mod Run
 pub mod Whole
 pub mod Same
-pub mod Worked

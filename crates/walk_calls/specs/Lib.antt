@@ -2,4 +2,3 @@
 pub mod Steps
 pub mod Fills
 pub mod Chain
-pub mod Worked

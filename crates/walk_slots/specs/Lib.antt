@@ -1,4 +1,3 @@
 -- The walk through C.
 pub mod Slot
 pub mod Held
-pub mod Worked

@@ -3,5 +3,3 @@
 pub mod Block
 pub mod Tables
 pub mod Scan
-pub mod Worked
-pub mod Limits

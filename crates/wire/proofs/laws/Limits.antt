@@ -12,7 +12,7 @@ use Rattle.fields.specs.View.{view}
 use Rattle.fields.specs.Schema.{primitive_block, string_table}
 use Rattle.wire.specs.Block.{block_fields}
 use Rattle.wire.specs.Scan.{string_bytes, tables, tables_stage, strings_stage, fields_stage, scanned}
-use Rattle.wire.specs.Limits.{limits}
+use Rattle.wire.proofs.Limits.{limits}
 use Rattle.wire.proofs.laws.Refusals.{Each, FairOutcome, was_kept, was_refused, fair_refusal, fair_onward, view_fair, Other, never}
 
 never_1 : Each (Other 1)

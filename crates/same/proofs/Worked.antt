@@ -24,7 +24,7 @@ use Rattle.block.specs.Columns.{column_in, count_of}
 use Rattle.block.specs.Tags.{take_pairs, dense_pairs}
 use Rattle.block.specs.Check.{all, agreed, element_by, check_dense, check_group}
 use Rattle.block.specs.Spelled.{in_table, in_group, in_string, in_dense, in_way, in_relation, keys, vals, refs, roles, memids, types, ids, lats, lons, pairs, some_info, some_dense_info}
-use Rattle.block.specs.Worked as block
+use Rattle.block.proofs.Worked as block
 use Rattle.columns.specs.InStep.{ahead, start_of}
 use Rattle.columns.specs.Zip.{zip}
 use Rattle.elements.specs.Tags.{pairs_of, found_tags, raw_tags_from, tags_by}

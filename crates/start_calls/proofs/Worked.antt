@@ -15,9 +15,9 @@ use Rattle.elements.specs.declared.element.Element.{Element}
 use Rattle.elements.specs.declared.element.Element.TheVariants as element
 use Rattle.answers.specs.Words.{words}
 use Rattle.layouts.specs.Element.{element_words}
-use Rattle.calls.specs.Worked.{blank, place, refs_with}
-use Rattle.tag_calls.specs.Worked.{columns_by}
-use Rattle.member_calls.specs.Worked.{members_with}
+use Rattle.calls.proofs.Worked.{blank, place, refs_with}
+use Rattle.tag_calls.proofs.Worked.{columns_by}
+use Rattle.member_calls.proofs.Worked.{members_with}
 use Rattle.start_calls.specs.Starts.{refs_start_in, tags_start_in, members_start_in}
 
 abbrev of_numbers : List ℕ → List ℕ

@@ -17,7 +17,7 @@ use Rattle.elements.specs.Members.{members_by}
 use Rattle.answers.specs.Words.{words}
 use Rattle.answers.specs.Record.{record_in}
 use Rattle.calls.specs.Calls.{first, past, gives, tells, answered, leaves, asks}
-use Rattle.calls.specs.Worked.{blank, minus, place, numbered, recorded}
+use Rattle.calls.proofs.Worked.{blank, minus, place, numbered, recorded}
 use Rattle.member_calls.specs.Members.{member_words, members_at, member_item, members_call}
 
 abbrev pub members_with : ℕ → ℕ → ℕ → ℕ → ℤ → ℕ → ℕ → RelMemberIter

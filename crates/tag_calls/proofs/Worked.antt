@@ -17,7 +17,7 @@ use Rattle.elements.specs.Tags.{pair_by, tag_by, pairs_of, found_tags, raw_tags_
 use Rattle.answers.specs.Words.{words}
 use Rattle.answers.specs.Record.{record_in}
 use Rattle.calls.specs.Calls.{first, past, gives, tells, answered, leaves, asks}
-use Rattle.calls.specs.Worked.{blank, place, numbered, recorded}
+use Rattle.calls.proofs.Worked.{blank, place, numbered, recorded}
 use Rattle.tag_calls.specs.Tags.{tag_words, tags_at, raw_tag_item, raw_tags_call, tag_item, tags_call}
 
 abbrev pub columns_by : ℕ → ℕ → ℕ → ℕ → TagIter
