@@ -41,6 +41,7 @@ module _ {W A I : Type 0} (says : A → Says I) (after : A → W) (ahead : W →
         one i c (j ∷ items) on e (one_more is others) = hands-one e is (on items others)
 
         none : (items : List J) → (Streams Is (end ended) [] → Hands says Is answers []) → says a ≡ over → Streams Is (end ended) items → Hands says Is (a ∷ answers) items
+        none (j ∷ items) on e h = elim h [ ]
         none [] on e all-out = hands_end e (on all-out)
 
         by : ((items : List J) → Streams Is (ahead (after a)) items → Hands says Is answers items) → (x : Says I) → says a ≡ x → Hands says Is (a ∷ answers) items

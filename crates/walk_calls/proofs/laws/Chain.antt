@@ -71,6 +71,7 @@ module _ {W A B : Type 0} (width : ℕ) (state_at : List ℕ → W) (stateWords 
         none_left items (subst (λ (d : Column A). Streams Is d items) (ends (state_at slot) e) h)
       where
         none_left : (items : List B) → Streams Is (end ended) items → HandsAll Is (a ∷ answers) items
+        none_left (b ∷ bs) h = elim h [ ]
         none_left [] all-out =
             hands_end code given (goes_on (ap (λ (l : List ℕ). ahead (state_at l)) left ∙ ends (state_at slot) e) [] all-out (omega (arith, ap length left)))
 

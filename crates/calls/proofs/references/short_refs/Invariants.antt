@@ -11,6 +11,7 @@ use mir.Val.{to_z, of_z}
 use Rattle.numbers.specs.Signed.{zigzag, wrapping_add}
 use Rattle.numbers.proofs.laws.Machine.{returned}
 use Rattle.columns.proofs.laws.Zip.{typed, summed}
+use lib.IntN.{ℤ}
 use Rattle.elements.specs.References.{refs_from}
 use Rattle.elements.specs.declared.references.WayRefIter.{WayRefIter}
 use Rattle.elements.specs.declared.references.WayRefIter.TheVariants as iter
@@ -21,8 +22,8 @@ use Rattle.calls.proofs.laws.Calls.{run-begins, run_on, run-from, puts-item}
 use Rattle.columns.proofs.laws.Short.{word_tells, word_within}
 use Rattle.calls.proofs.references.short_refs.Given as goal
 
-abbrev state_at : ℕ → ℕ → ℕ → WayRefIter
-state_at at end sum = iter.Refs (record { column = record { at = at; end = end }; sum = to_z w64 sum })
+abbrev state_at : ℕ → ℕ → ℤ → WayRefIter
+state_at at end sum = iter.Refs (record { column = record { at = at; end = end }; sum = sum })
 
 abbrev pub invariant-loop-count : goal.invariant-loop-count
 invariant-loop-count l = (length l.out ≡ length l.initial.out) × Run ref_item (refs_from l.buffer) 8 l.most l.first (state_at l.initial.at l.end l.initial.sum) l.initial.out l.count (state_at l.at l.end l.sum) l.out

@@ -15,6 +15,7 @@ use Rattle.protobuf.specs.declared.column.Column.{Column}
 use Rattle.fields.proofs.laws.Part.{confirmed}
 use Rattle.wire.specs.declared.record.WireBlock.{WireBlock}
 use Rattle.lookup.specs.Lookup.{is_record_inside}
+use lib.IntN.{ℤ}
 use Rattle.elements.specs.Members.{members_from}
 use Rattle.elements.specs.declared.members.RelMemberIter.{RelMemberIter}
 use Rattle.elements.specs.declared.members.RelMemberIter.TheVariants as iter
@@ -27,9 +28,9 @@ use Rattle.member_calls.proofs.laws.Members.{item-size}
 use Rattle.member_calls.proofs.laws.ShortMembers.{member-put}
 use Rattle.member_calls.proofs.members.short_members.Given as goal
 
-abbrev state_at : Column → Column → Column → ℕ → RelMemberIter
+abbrev state_at : Column → Column → Column → ℤ → RelMemberIter
 state_at roles memids types sum =
-    iter.Members (record { roles = roles; memids = record { column = memids; sum = to_z w64 sum }; types = types })
+    iter.Members (record { roles = roles; memids = record { column = memids; sum = sum }; types = types })
 
 -- of every record that is inside: the loop has no use for the one that was given, so the invariant does not name it
 abbrev pub invariant-loop-count : goal.invariant-loop-count

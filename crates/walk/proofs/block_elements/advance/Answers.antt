@@ -17,7 +17,7 @@ pub loop-state-init : goal.loop-state-init
 loop-state-init c = walk_begins c.requires.1
 
 pub returns-in-Node : goal.returns-in-Node
-returns-in-Node c = let said = dense-says c.loop-state.invariant c.in-DenseNodes.is _ c.requires.0 (sym (ap (dense_step_inside c.args.buffer.now) c.in-Node.is) ∙ c.next_dense-d.ensures.inside) c.say_dense.ensures (says (dense_said c.args.buffer.now c.in-DenseNodes.nodes.columns) c.next_dense-d.ensures.says c.in-Node.is) in record { says = said.0; behind = said.1 }
+returns-in-Node c = let said = dense-says c.loop-state.invariant c.in-DenseNodes.is c.in-Node.next c.requires.0 (sym (ap (dense_step_inside c.args.buffer.now) c.in-Node.is) ∙ c.next_dense-d.ensures.inside) c.say_dense.ensures (says (dense_said c.args.buffer.now c.in-DenseNodes.nodes.columns) c.next_dense-d.ensures.says c.in-Node.is) in record { says = said.0; behind = said.1 }
 
 pub loop-state-smaller-in-Ended : goal.loop-state-smaller-in-Ended
 loop-state-smaller-in-Ended c = dense_nearer c.loop-state.invariant c.in-DenseNodes.is c.messages_of-state.ensures
@@ -32,10 +32,10 @@ pub turn-m-requires : goal.turn-m-requires
 turn-m-requires c = (c.requires.0, c.loop-state.invariant.inside)
 
 pub loop-state-smaller : goal.loop-state-smaller
-loop-state-smaller c = turn_nearer c.loop-state.invariant c.turn-m.ensures (not-dense _ c.loop-state.state c.in_default.not-DenseNodes) c.if-m.true
+loop-state-smaller c = turn_nearer c.loop-state.invariant c.turn-m.ensures (not-dense c.args.block c.loop-state.state c.in_default.not-DenseNodes) c.if-m.true
 
 pub loop-state-preserved : goal.loop-state-preserved
-loop-state-preserved c = turn_on_lem c.loop-state.invariant c.turn-m.ensures (not-dense _ c.loop-state.state c.in_default.not-DenseNodes) c.if-m.true
+loop-state-preserved c = turn_on_lem c.loop-state.invariant c.turn-m.ensures (not-dense c.args.block c.loop-state.state c.in_default.not-DenseNodes) c.if-m.true
 
 pub returns-else-m : goal.returns-else-m
 returns-else-m c = let said = turn_says c.loop-state.invariant c.turn-m.ensures c.if-m.false in record { says = said.0; behind = said.1 }

@@ -13,10 +13,10 @@ returns-in-Between c = let slot = c.args.slot.now in
     (between_put slot c.in-Between.b c.in-Between.known_told-1-own.given.0.1.1.1.0.1 c.put_numbers-in-Between.ensures) in record { after = said.0; back = said.1 }
 
 pub returns-in-DenseNodes : goal.returns-in-DenseNodes
-returns-in-DenseNodes c = let said = put_of c.args.slot.now c.in-DenseNodes.is c.put_nodes.ensures in record { after = said.0; back = said.1 }
+returns-in-DenseNodes c = let said = put_of c.args.slot.now c.in-DenseNodes.is (c.put_nodes.ensures.after, c.put_nodes.ensures.back) in record { after = said.0; back = said.1 }
 
 pub returns-in-FullDenseNodes : goal.returns-in-FullDenseNodes
-returns-in-FullDenseNodes c = let said = put_of c.args.slot.now c.in-FullDenseNodes.is c.put_full.ensures in record { after = said.0; back = said.1 }
+returns-in-FullDenseNodes c = let said = put_of c.args.slot.now c.in-FullDenseNodes.is (c.put_full.ensures.after, c.put_full.ensures.back) in record { after = said.0; back = said.1 }
 
 pub returns-in-Messages : goal.returns-in-Messages
-returns-in-Messages c = let said = put_of c.args.slot.now c.in-Messages.is c.put_messages.ensures in record { after = said.0; back = said.1 }
+returns-in-Messages c = let said = put_of c.args.slot.now c.in-Messages.is (c.put_messages.ensures.after, c.put_messages.ensures.back) in record { after = said.0; back = said.1 }
