@@ -11,7 +11,6 @@ use mir.Val.{to_z, of_z}
 use Rattle.numbers.specs.Signed.{zigzag, wrapping_add}
 use Rattle.numbers.proofs.laws.Machine.{returned}
 use Rattle.columns.proofs.laws.Zip.{typed, summed}
-use lib.IntN.{ℤ}
 use Rattle.elements.specs.References.{refs_from}
 use Rattle.elements.specs.declared.references.WayRefIter.{WayRefIter}
 use Rattle.elements.specs.declared.references.WayRefIter.TheVariants as iter
@@ -22,16 +21,16 @@ use Rattle.calls.proofs.laws.Calls.{run-begins, run_on, run-from, puts-item}
 use Rattle.columns.proofs.laws.Short.{word_tells, word_within}
 use Rattle.calls.proofs.references.short_refs.Goals as goal
 
-abbrev state_at : ℕ → ℕ → ℤ → WayRefIter
-state_at at end sum = iter.Refs (record { column = record { at = at; end = end }; sum = sum })
+abbrev state_at : ℕ → ℕ → ℕ → WayRefIter
+state_at at end sum = iter.Refs (record { column = record { at = at; end = end }; sum = to_z w64 sum })
 
 pub loop-count-preserved : goal.loop-count-preserved
 loop-count-preserved c =
-    let summed_word : c.wrapping_add_i64-sum.result ≡ wrapping_add 64 c.loop-count.sum (zigzag 64 (c.wide_value-word.result / 16)) =
-    c.wrapping_add_i64-sum.ensures ∙ ap (wrapping_add 64 c.loop-count.sum) c.zigzag_i64.ensures in (
+    let summed_word : to_z w64 (of_z w64 c.wrapping_add_i64-sum.result) ≡ wrapping_add 64 (to_z w64 c.loop-count.sum-bits) (zigzag 64 (c.wide_value-word.result / 16)) =
+    returned w64 c.wrapping_add_i64-sum.type_inv (c.wrapping_add_i64-sum.ensures ∙ ap (wrapping_add 64 (to_z w64 c.loop-count.sum-bits)) (returned w64 c.zigzag_i64.type_inv c.zigzag_i64.ensures)) in (
       c.put_at.auto.out ∙ c.loop-count.invariant.0,
       run_on ref_item (refs_from _) 8 c.loop-count.invariant.1 (λ x. lit≤ tt) c.loop-count-test.true
-          (puts-item ref_item (refs_from _) c.wrapping_add_i64-sum.result
+          (puts-item ref_item (refs_from _) (to_z w64 (of_z w64 c.wrapping_add_i64-sum.result))
           (summed 64 _ (typed (zigzag 64) (word_tells _ _ c.if-word-eq0.false c.wide_value-word.ensures) refl) summed_word).so
           (c.put_at.ensures ∙ ap (λ (n : ℕ). filled_at c.loop-count.out (8 * c.loop-count.count) (n ∷ [])) c.bits_i64.ensures)),
     )
@@ -58,10 +57,22 @@ pub shape_of-out-after-loop-count : goal.shape_of-out-after-loop-count
 shape_of-out-after-loop-count c = c.loop-count.invariant.0
 
 pub returns-after-loop-count : goal.returns-after-loop-count
-returns-after-loop-count c = run-from ref_item (refs_from _) 8 c.in-Refs.is c.loop-count.invariant.1
+returns-after-loop-count c = let run-here : let a = c.args in
+    Run ref_item (refs_from a.buffer.now) 8 a.most a.first a.from a.out.now c.loop-count.count (state_at c.loop-count.at c.in-Refs.c.column.end c.loop-count.sum-bits) c.loop-count.out =
+    let v = c.in-Refs.c in
+    run-from ref_item (refs_from _) 8
+    (c.in-Refs.is ∙ λ i. iter.Refs (record { column = v.column; sum = sym (returned w64 {r = v.sum} c.struct_told-1.given.1.0.1 refl) i }))
+    c.loop-count.invariant.1 in
+    run-here
 
 pub shape_of-out-then-word-eq0 : goal.shape_of-out-then-word-eq0
 shape_of-out-then-word-eq0 c = c.loop-count.invariant.0
 
 pub returns-then-word-eq0 : goal.returns-then-word-eq0
-returns-then-word-eq0 c = run-from ref_item (refs_from _) 8 c.in-Refs.is c.loop-count.invariant.1
+returns-then-word-eq0 c = let run-here : let a = c.args in
+    Run ref_item (refs_from a.buffer.now) 8 a.most a.first a.from a.out.now c.loop-count.count (state_at c.loop-count.at c.in-Refs.c.column.end c.loop-count.sum-bits) c.loop-count.out =
+    let v = c.in-Refs.c in
+    run-from ref_item (refs_from _) 8
+    (c.in-Refs.is ∙ λ i. iter.Refs (record { column = v.column; sum = sym (returned w64 {r = v.sum} c.struct_told-1.given.1.0.1 refl) i }))
+    c.loop-count.invariant.1 in
+    run-here

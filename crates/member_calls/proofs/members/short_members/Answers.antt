@@ -15,7 +15,6 @@ use Rattle.protobuf.specs.declared.column.Column.{Column}
 use Rattle.fields.proofs.laws.Part.{confirmed}
 use Rattle.wire.specs.declared.record.WireBlock.{WireBlock}
 use Rattle.lookup.specs.Lookup.{is_record_inside}
-use lib.IntN.{ℤ}
 use Rattle.elements.specs.Members.{members_from}
 use Rattle.elements.specs.declared.members.RelMemberIter.{RelMemberIter}
 use Rattle.elements.specs.declared.members.RelMemberIter.TheVariants as iter
@@ -28,23 +27,23 @@ use Rattle.member_calls.proofs.laws.Members.{item-size}
 use Rattle.member_calls.proofs.laws.ShortMembers.{member-put}
 use Rattle.member_calls.proofs.members.short_members.Goals as goal
 
-abbrev state_at : Column → Column → Column → ℤ → RelMemberIter
+abbrev state_at : Column → Column → Column → ℕ → RelMemberIter
 state_at roles memids types sum =
-    iter.Members (record { roles = roles; memids = record { column = memids; sum = sum }; types = types })
+    iter.Members (record { roles = roles; memids = record { column = memids; sum = to_z w64 sum }; types = types })
 
 -- one member more
 pub loop-count-preserved : goal.loop-count-preserved
 loop-count-preserved c =
-    let summed_word : c.wrapping_add_i64-sum.result ≡ wrapping_add 64 c.loop-count.sum (zigzag 64 (c.wide_value-id.result / 16)) =
-    c.wrapping_add_i64-sum.ensures ∙ ap (wrapping_add 64 c.loop-count.sum) c.zigzag_i64.ensures in (
+    let summed_word : to_z w64 (of_z w64 c.wrapping_add_i64-sum.result) ≡ wrapping_add 64 (to_z w64 c.loop-count.sum-bits) (zigzag 64 (c.wide_value-id.result / 16)) =
+    returned w64 c.wrapping_add_i64-sum.type_inv (c.wrapping_add_i64-sum.ensures ∙ ap (wrapping_add 64 (to_z w64 c.loop-count.sum-bits)) (returned w64 c.zigzag_i64.type_inv c.zigzag_i64.ensures)) in (
       c.put_at.auto.out ∙ c.loop-count.invariant.0,
       λ b h.
           run_on member_item (members_from _ b) 32 (c.loop-count.invariant.1 b h) item-size c.loop-count-test.true
-          (member-put _ b h (record { roles = c.loop-count.roles; memids = record { column = c.loop-count.memids; sum = c.loop-count.sum }; types = c.loop-count.types })
+          (member-put _ b h (record { roles = c.loop-count.roles; memids = record { column = c.loop-count.memids; sum = to_z w64 c.loop-count.sum-bits }; types = c.loop-count.types })
           (record { some = c.if-role-eq0.false; tells = c.short_value-role.ensures })
           (record { some = c.if-id-eq0.false; tells = c.wide_value-id.ensures })
           (record { some = c.if-kind-eq0.false; tells = c.short_value-kind.ensures })
-          c.wrapping_add_i64-sum.result (omega (arith, c.if-role-gt2147483647.false)) (omega (arith, c.if-kind-gt2.false)) summed_word
+          (to_z w64 (of_z w64 c.wrapping_add_i64-sum.result)) (omega (arith, c.if-role-gt2147483647.false)) (omega (arith, c.if-kind-gt2.false)) summed_word
           (c.put_at.ensures ∙ ap (λ (n : ℕ). filled_at c.loop-count.out (32 * c.loop-count.count) (c.short_value-role.result / 16 ∷ c.short_value-kind.result / 16 ∷ c.short_value-kind.result / 16 ∷ n ∷ [])) c.bits_i64.ensures)),
     )
 
@@ -81,7 +80,13 @@ shape_of-out-after-loop-count c = c.loop-count.invariant.0
 pub returns-after-loop-count : goal.returns-after-loop-count
 returns-after-loop-count c = let stands : let a = c.args in is_record_inside a.buffer.now a.block ≡ true =
     confirmed c.is_inside.ensures c.if-not-is_inside.false-raw in
-    run-from member_item (members_from _ _) 32 c.in-Members.is (c.loop-count.invariant.1 _ stands)
+    let run-here : let a = c.args in
+    Run member_item (members_from a.buffer.now a.block) 32 a.most a.first a.from a.out.now c.loop-count.count (state_at c.loop-count.roles c.loop-count.memids c.loop-count.types c.loop-count.sum-bits) c.loop-count.out =
+    let v = c.in-Members.c in
+    let sum = returned w64 {r = v.memids.sum} c.struct_told-1.given.1.0.1 refl in
+    run-from member_item (members_from _ _) 32 (c.in-Members.is ∙ λ i. iter.Members (record { roles = v.roles; memids = record { column = v.memids.column; sum = sym sum i }; types = v.types }))
+    (c.loop-count.invariant.1 _ stands) in
+    run-here
 
 pub shape_of-out-then-role-eq0 : goal.shape_of-out-then-role-eq0
 shape_of-out-then-role-eq0 c = c.loop-count.invariant.0
@@ -89,7 +94,13 @@ shape_of-out-then-role-eq0 c = c.loop-count.invariant.0
 pub returns-then-role-eq0 : goal.returns-then-role-eq0
 returns-then-role-eq0 c = let stands : let a = c.args in is_record_inside a.buffer.now a.block ≡ true =
     confirmed c.is_inside.ensures c.if-not-is_inside.false-raw in
-    run-from member_item (members_from _ _) 32 c.in-Members.is (c.loop-count.invariant.1 _ stands)
+    let run-here : let a = c.args in
+    Run member_item (members_from a.buffer.now a.block) 32 a.most a.first a.from a.out.now c.loop-count.count (state_at c.loop-count.roles c.loop-count.memids c.loop-count.types c.loop-count.sum-bits) c.loop-count.out =
+    let v = c.in-Members.c in
+    let sum = returned w64 {r = v.memids.sum} c.struct_told-1.given.1.0.1 refl in
+    run-from member_item (members_from _ _) 32 (c.in-Members.is ∙ λ i. iter.Members (record { roles = v.roles; memids = record { column = v.memids.column; sum = sym sum i }; types = v.types }))
+    (c.loop-count.invariant.1 _ stands) in
+    run-here
 
 pub shape_of-out-then-id-eq0 : goal.shape_of-out-then-id-eq0
 shape_of-out-then-id-eq0 c = c.loop-count.invariant.0
@@ -97,7 +108,13 @@ shape_of-out-then-id-eq0 c = c.loop-count.invariant.0
 pub returns-then-id-eq0 : goal.returns-then-id-eq0
 returns-then-id-eq0 c = let stands : let a = c.args in is_record_inside a.buffer.now a.block ≡ true =
     confirmed c.is_inside.ensures c.if-not-is_inside.false-raw in
-    run-from member_item (members_from _ _) 32 c.in-Members.is (c.loop-count.invariant.1 _ stands)
+    let run-here : let a = c.args in
+    Run member_item (members_from a.buffer.now a.block) 32 a.most a.first a.from a.out.now c.loop-count.count (state_at c.loop-count.roles c.loop-count.memids c.loop-count.types c.loop-count.sum-bits) c.loop-count.out =
+    let v = c.in-Members.c in
+    let sum = returned w64 {r = v.memids.sum} c.struct_told-1.given.1.0.1 refl in
+    run-from member_item (members_from _ _) 32 (c.in-Members.is ∙ λ i. iter.Members (record { roles = v.roles; memids = record { column = v.memids.column; sum = sym sum i }; types = v.types }))
+    (c.loop-count.invariant.1 _ stands) in
+    run-here
 
 pub shape_of-out-then-kind-eq0 : goal.shape_of-out-then-kind-eq0
 shape_of-out-then-kind-eq0 c = c.loop-count.invariant.0
@@ -105,7 +122,13 @@ shape_of-out-then-kind-eq0 c = c.loop-count.invariant.0
 pub returns-then-kind-eq0 : goal.returns-then-kind-eq0
 returns-then-kind-eq0 c = let stands : let a = c.args in is_record_inside a.buffer.now a.block ≡ true =
     confirmed c.is_inside.ensures c.if-not-is_inside.false-raw in
-    run-from member_item (members_from _ _) 32 c.in-Members.is (c.loop-count.invariant.1 _ stands)
+    let run-here : let a = c.args in
+    Run member_item (members_from a.buffer.now a.block) 32 a.most a.first a.from a.out.now c.loop-count.count (state_at c.loop-count.roles c.loop-count.memids c.loop-count.types c.loop-count.sum-bits) c.loop-count.out =
+    let v = c.in-Members.c in
+    let sum = returned w64 {r = v.memids.sum} c.struct_told-1.given.1.0.1 refl in
+    run-from member_item (members_from _ _) 32 (c.in-Members.is ∙ λ i. iter.Members (record { roles = v.roles; memids = record { column = v.memids.column; sum = sym sum i }; types = v.types }))
+    (c.loop-count.invariant.1 _ stands) in
+    run-here
 
 pub shape_of-out-then-role-gt2147483647 : goal.shape_of-out-then-role-gt2147483647
 shape_of-out-then-role-gt2147483647 c = c.loop-count.invariant.0
@@ -113,7 +136,13 @@ shape_of-out-then-role-gt2147483647 c = c.loop-count.invariant.0
 pub returns-then-role-gt2147483647 : goal.returns-then-role-gt2147483647
 returns-then-role-gt2147483647 c = let stands : let a = c.args in is_record_inside a.buffer.now a.block ≡ true =
     confirmed c.is_inside.ensures c.if-not-is_inside.false-raw in
-    run-from member_item (members_from _ _) 32 c.in-Members.is (c.loop-count.invariant.1 _ stands)
+    let run-here : let a = c.args in
+    Run member_item (members_from a.buffer.now a.block) 32 a.most a.first a.from a.out.now c.loop-count.count (state_at c.loop-count.roles c.loop-count.memids c.loop-count.types c.loop-count.sum-bits) c.loop-count.out =
+    let v = c.in-Members.c in
+    let sum = returned w64 {r = v.memids.sum} c.struct_told-1.given.1.0.1 refl in
+    run-from member_item (members_from _ _) 32 (c.in-Members.is ∙ λ i. iter.Members (record { roles = v.roles; memids = record { column = v.memids.column; sum = sym sum i }; types = v.types }))
+    (c.loop-count.invariant.1 _ stands) in
+    run-here
 
 pub shape_of-out-then-kind-gt2 : goal.shape_of-out-then-kind-gt2
 shape_of-out-then-kind-gt2 c = c.loop-count.invariant.0
@@ -121,4 +150,10 @@ shape_of-out-then-kind-gt2 c = c.loop-count.invariant.0
 pub returns-then-kind-gt2 : goal.returns-then-kind-gt2
 returns-then-kind-gt2 c = let stands : let a = c.args in is_record_inside a.buffer.now a.block ≡ true =
     confirmed c.is_inside.ensures c.if-not-is_inside.false-raw in
-    run-from member_item (members_from _ _) 32 c.in-Members.is (c.loop-count.invariant.1 _ stands)
+    let run-here : let a = c.args in
+    Run member_item (members_from a.buffer.now a.block) 32 a.most a.first a.from a.out.now c.loop-count.count (state_at c.loop-count.roles c.loop-count.memids c.loop-count.types c.loop-count.sum-bits) c.loop-count.out =
+    let v = c.in-Members.c in
+    let sum = returned w64 {r = v.memids.sum} c.struct_told-1.given.1.0.1 refl in
+    run-from member_item (members_from _ _) 32 (c.in-Members.is ∙ λ i. iter.Members (record { roles = v.roles; memids = record { column = v.memids.column; sum = sym sum i }; types = v.types }))
+    (c.loop-count.invariant.1 _ stands) in
+    run-here

@@ -12,5 +12,5 @@ returns-then-short_step c =
 
 pub returns : goal.returns
 returns c =
-    let told = step_unserved _ _ c.short_step.ensures c.if-short_step.false _ _ _ c.next_step.ensures in
+    let told = step_unserved _ _ c.short_step.ensures c.if-short_step.false _ _ _ (c.next_step.ensures.code, (c.next_step.ensures.next, c.next_step.ensures.after)) in
     record { code = told.0; next = told.1.0; after = told.1.1; whole = λ b n s' rec b' n' x y. whole_in x y }
