@@ -2,8 +2,7 @@
 -- answer which is no field is the stream's end.
 use Prim.Native.Nat.{ℕ, ◌-◌, ◌/◌, ◌%◌, ◌<◌}
 use mathlib.Core.Path.{◌≡◌, refl, ap, ◌∙◌}
-use mathlib.Core.List.{List, [], ◌∷◌}
-use mathlib.Core.Logic.{⊎_elim}
+use mathlib.Core.List.{List}
 use mathlib.Core.Bool.{Bool, true, false}
 use native.Mathlib.Omega.{arith}
 use lib.ListN.{length}
@@ -16,7 +15,6 @@ use Rattle.protobuf.specs.Tag.{split}
 use Rattle.protobuf.specs.Stream.{last, item}
 use Rattle.message.specs.Message.{Field, MessageEnd, complete, cut, spoilt, field_at}
 use Rattle.message.specs.Answers.{field_of}
-use Rattle.message.specs.contracts.field.Field.{the_type}
 use Rattle.message.proofs.laws.Message.{fields-forward}
 
 -- only the tag of a message in field k is a part of field k

@@ -1,5 +1,4 @@
 -- `agree` hands the first refusal up, and compares.
-use borrow.Author.Rules.{rules}
 use mathlib.Core.Path.{sym, ap}
 use Rattle.columns.specs.Counts.{counted}
 use Rattle.block.proofs.laws.Onward.{first-refused, second-refused, counts_same, counts-differ}

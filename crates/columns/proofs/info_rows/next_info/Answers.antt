@@ -1,6 +1,5 @@
 -- `next_info` is `nextInfo`: each column that has a value leads on to the next, and the last three are `next_user`'s. A column that is read
 -- stays inside the bytes.
-use borrow.Author.Rules.{rules}
 use mathlib.Core.Path.{refl, sym, ◌∙◌}
 use Rattle.columns.proofs.laws.InStep.{stepped}
 use Rattle.columns.proofs.laws.Inside.{each-inside, version-read, timestamp-read, changeset-read, behind-inside}

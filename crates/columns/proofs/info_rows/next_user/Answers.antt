@@ -1,5 +1,4 @@
 -- `next_user` reads uid and user_sid, each of which stays inside the bytes, and leaves visible to `next_visible`.
-use borrow.Author.Rules.{rules}
 use mathlib.Core.Path.{refl, sym, ◌∙◌}
 use Rattle.columns.proofs.laws.Inside.{each-inside, uid-read, user-read}
 use Rattle.columns.proofs.laws.Zip.{told_is, read-ended, read-cut, read_more}

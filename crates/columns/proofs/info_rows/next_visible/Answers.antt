@@ -1,5 +1,4 @@
 -- `next_visible` is `visibleInfo` by the cases of its one step, which leaves its column inside the bytes.
-use borrow.Author.Rules.{rules}
 use mir.Syntax.{w32}
 use mathlib.Core.Path.{refl, sym, ◌∙◌}
 use Rattle.numbers.proofs.laws.Machine.{returned}

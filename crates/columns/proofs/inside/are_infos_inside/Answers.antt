@@ -1,5 +1,4 @@
 -- `are_infos_inside` makes the tests of its six columns.
-use borrow.Author.Rules.{rules}
 use mathlib.Core.Path.{◌∙◌}
 use Rattle.columns.specs.Inside.{also}
 use Rattle.columns.proofs.inside.are_infos_inside.Goals as goal

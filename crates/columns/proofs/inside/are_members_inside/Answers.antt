@@ -1,5 +1,4 @@
 -- `are_members_inside` makes the tests of its three columns.
-use borrow.Author.Rules.{rules}
 use mathlib.Core.Path.{◌∙◌}
 use Rattle.columns.specs.Inside.{also}
 use Rattle.columns.proofs.inside.are_members_inside.Goals as goal

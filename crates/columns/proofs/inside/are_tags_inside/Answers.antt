@@ -1,5 +1,4 @@
 -- `are_tags_inside` makes the tests of its two columns.
-use borrow.Author.Rules.{rules}
 use mathlib.Core.Path.{◌∙◌}
 use Rattle.columns.specs.Inside.{also}
 use Rattle.columns.proofs.inside.are_tags_inside.Goals as goal

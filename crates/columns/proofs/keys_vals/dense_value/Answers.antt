@@ -1,5 +1,4 @@
 -- `dense_value` is `value_of` by the three cases of a step, whose next state is inside the bytes.
-use borrow.Author.Rules.{rules}
 use mathlib.Core.Path.{refl, sym, ap}
 use Rattle.columns.specs.KeysVals.{value_of}
 use Rattle.columns.proofs.laws.InStep.{stepped}

@@ -1,6 +1,5 @@
 -- `next_dense_tag` is `nextTag` by the three cases of a step, where a key that is not 0 has a value. Its next state is a step's, or at the end
 -- the one that it was given.
-use borrow.Author.Rules.{rules}
 use mathlib.Core.Path.{refl, sym, ap, ◌∙◌}
 use Rattle.columns.specs.KeysVals.{next_tag}
 use Rattle.columns.proofs.laws.InStep.{stepped}

@@ -1,16 +1,12 @@
 -- `pass_pairs` takes one tag after the other: what is behind the pairs of the place where the loop stands is what was behind the first, and that
 -- place is inside where the first was.
-use borrow.Author.Rules.{rules}
 use mathlib.Core.Bool.{true}
-use mathlib.Core.Path.{◌≡◌, refl, sym, ◌∙◌}
-use Rattle.protobuf.proofs.laws.Read.{says}
+use mathlib.Core.Path.{◌≡◌}
 use Rattle.fields.specs.Outcome.{each}
 use Rattle.block.specs.Tags.{rest_of, take_pairs}
 use Rattle.columns.specs.InStep.{ahead}
-use Rattle.columns.specs.Inside.{column_inside, tag_inside}
-use Rattle.columns.specs.KeysVals.{tag_said}
+use Rattle.columns.specs.Inside.{column_inside}
 use Rattle.columns.proofs.laws.InStep.{size}
-use Rattle.columns.proofs.laws.KeysVals.{behind-pair, behind-done, behind-stopped, pair_shortens}
 use Rattle.columns.proofs.keys_vals.pass_pairs.Given as goal
 
 abbrev pub invariant-loop-n : goal.invariant-loop-n

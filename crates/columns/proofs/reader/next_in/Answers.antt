@@ -1,5 +1,4 @@
 -- `next_in` is the leaf's step, told beside its value.
-use borrow.Author.Rules.{rules}
 use Rattle.columns.proofs.laws.InStep.{told-beside}
 use Rattle.columns.proofs.reader.next_in.Goals as goal
 

@@ -1,5 +1,4 @@
 -- `start_column` begins where the part does and ends where it does.
-use borrow.Author.Rules.{rules}
 use native.Mathlib.Omega.{arith}
 use mathlib.Core.Path.{sym}
 use Rattle.columns.proofs.laws.InStep.{start-absent, start-far, start-here}

@@ -1,5 +1,4 @@
 -- `next_sum32` adds the next difference to the sum; its column's step leaves it inside the bytes.
-use borrow.Author.Rules.{rules}
 use mir.Syntax.{w32}
 use Rattle.numbers.specs.Signed.{zigzag}
 use mathlib.Core.Path.{refl}

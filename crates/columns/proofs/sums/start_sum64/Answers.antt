@@ -1,5 +1,4 @@
 -- `start_sum64` starts the column at its part, and the sum at 0.
-use borrow.Author.Rules.{rules}
 use lib.IntN.{pos}
 use Rattle.columns.proofs.sums.start_sum64.Goals as goal
 

@@ -1,5 +1,4 @@
 -- `in_step` is its definition, case by case.
-use borrow.Author.Rules.{rules}
 use Rattle.columns.specs.InStep.{in_step}
 use mathlib.Core.Path.{sym, ap}
 use Rattle.columns.proofs.told.in_step.Goals as goal

@@ -1,5 +1,4 @@
 -- `next_member` takes the next role in step with the next memid and type; each one's step leaves it inside the bytes.
-use borrow.Author.Rules.{rules}
 use mir.Syntax.{w32}
 use Rattle.numbers.specs.Signed.{twos}
 use Rattle.numbers.proofs.laws.Machine.{returned}

@@ -1,5 +1,4 @@
 -- `next_row` takes the next id in step with the next lat and lon; each one's step leaves it inside the bytes.
-use borrow.Author.Rules.{rules}
 use Rattle.columns.proofs.laws.Inside.{also-true}
 use Rattle.columns.proofs.laws.Zip.{sum_told, zipped}
 use Rattle.columns.proofs.zip.next_row.Goals as goal

@@ -1,5 +1,4 @@
 -- `next_tag` takes the next key in step with the next value; each one's step leaves it inside the bytes.
-use borrow.Author.Rules.{rules}
 use mathlib.Core.Path.{refl}
 use Rattle.columns.proofs.laws.Inside.{also-true, read-inside}
 use Rattle.columns.proofs.laws.Zip.{reads, typed, zipped}

@@ -1,5 +1,4 @@
 -- `next_of` tests the record and the columns, and then hands out what a step of the three in step tells.
-use borrow.Author.Rules.{rules}
 use mathlib.Core.Bool.{true}
 use mathlib.Core.Path.{◌≡◌, refl, ◌∙◌}
 use mir.Syntax.{w32, w64}

@@ -1,5 +1,4 @@
 -- `role_text` gives none to a negative number, and else what `get` does.
-use borrow.Author.Rules.{rules}
 use Rattle.elements.proofs.laws.Members.{role-negative, role-found, role_cast}
 use Rattle.elements.proofs.members.role_text.Goals as goal
 

@@ -1,5 +1,4 @@
 -- `nano_lon` takes its offset and granularity from the record.
-use borrow.Author.Rules.{rules}
 use Rattle.elements.proofs.laws.Positions.{held-position}
 use Rattle.elements.proofs.positions.nano_lon.Goals as goal
 

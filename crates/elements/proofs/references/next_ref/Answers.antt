@@ -1,5 +1,4 @@
 -- `next_ref` hands out what a step of the sums tells.
-use borrow.Author.Rules.{rules}
 use mathlib.Core.Path.{refl}
 use mir.Syntax.{w64}
 use Rattle.numbers.proofs.laws.Machine.{returned}

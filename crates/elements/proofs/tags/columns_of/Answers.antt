@@ -1,5 +1,4 @@
 -- `columns_of` starts both columns at their parts.
-use borrow.Author.Rules.{rules}
 use Rattle.elements.specs.declared.tags.TagIter.TheVariants as iter
 use Rattle.elements.proofs.tags.columns_of.Goals as goal
 

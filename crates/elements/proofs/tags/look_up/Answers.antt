@@ -1,5 +1,4 @@
 -- `look_up` makes the cases of `tagThen`.
-use borrow.Author.Rules.{rules}
 use mathlib.Core.Path.{refl}
 use Rattle.elements.proofs.laws.Tags.{looked_up}
 use Rattle.elements.proofs.tags.look_up.Goals as goal

@@ -1,5 +1,4 @@
 -- `next_of_columns` tests both columns, and then hands out what a step of them in step tells.
-use borrow.Author.Rules.{rules}
 use mathlib.Core.Bool.{true}
 use mathlib.Core.Path.{◌≡◌, refl}
 use Rattle.fields.proofs.laws.Part.{refuted, confirmed}

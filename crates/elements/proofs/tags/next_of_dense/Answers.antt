@@ -1,5 +1,4 @@
 -- `next_of_dense` hands out what a step of keys_vals tells.
-use borrow.Author.Rules.{rules}
 use mathlib.Core.Path.{refl}
 use Rattle.elements.proofs.laws.Tags.{dense-told}
 use Rattle.elements.proofs.tags.next_of_dense.Goals as goal

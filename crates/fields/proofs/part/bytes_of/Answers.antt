@@ -1,5 +1,4 @@
 -- `bytes_of` makes the tests of `bytes_of` and lends the part, which stands where it stands in the buffer.
-use borrow.Author.Rules.{rules}
 use native.Mathlib.Omega.{arith}
 use Prim.Native.Nat.{◌+◌, ◌≤◌}
 use lib.ListN.{length}

@@ -1,5 +1,4 @@
 -- `put_slot` is `putBy`, case by case.
-use borrow.Author.Rules.{rules}
 use Rattle.fields.specs.View.{put}
 use Rattle.fields.proofs.slot.put_slot.Goals as goal
 

@@ -1,7 +1,6 @@
 -- `classify_group` asks of the first byte what `blockType` does.
 use mathlib.Core.Path.{refl, sym, ◌∙◌}
 use Rattle.groups.proofs.laws.Classify.{of_none, of-wire, of_field, other-field}
-use borrow.Author.Rules.{rules}
 use Rattle.groups.proofs.classify.classify_group.Goals as goal
 
 pub returns-then-group-eq0 : goal.returns-then-group-eq0

@@ -1,5 +1,4 @@
 -- `dense` tests the range, passes over the group, and hands the part out as one of the buffer.
-use borrow.Author.Rules.{rules}
 use native.Mathlib.Omega.{arith}
 use Prim.Native.Nat.{◌+◌, ◌≤◌}
 use lib.Dec.{leb}

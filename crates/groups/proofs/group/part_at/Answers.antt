@@ -1,5 +1,4 @@
 -- `part_at` is `moved`, by whether the part is present.
-use borrow.Author.Rules.{rules}
 use Rattle.groups.proofs.group.part_at.Goals as goal
 
 pub returns-then-part : goal.returns-then-part

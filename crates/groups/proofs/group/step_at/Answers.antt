@@ -1,5 +1,4 @@
 -- `step_at` tests the range and the place, finds the first message from there, and hands it out with the place behind it.
-use borrow.Author.Rules.{rules}
 use native.Mathlib.Omega.{arith}
 use Prim.Native.Nat.{◌+◌, ◌≤◌}
 use lib.Dec.{leb}

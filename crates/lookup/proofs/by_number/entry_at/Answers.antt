@@ -1,5 +1,4 @@
 -- `entry_at` reads the entry's two numbers.
-use borrow.Author.Rules.{rules}
 use Rattle.fields.specs.Part.{part_by}
 use Rattle.lookup.proofs.by_number.entry_at.Goals as goal
 

@@ -1,5 +1,4 @@
 -- `get` makes the tests of `get_at` by differences, and reads the entry where its bytes are inside.
-use borrow.Author.Rules.{rules}
 use native.Mathlib.Omega.{arith}
 use Prim.Native.Nat.{◌+◌, ◌-◌, ◌*◌, ◌≤◌}
 use mathlib.Core.Path.{sym, ◌∙◌}

@@ -1,5 +1,4 @@
 -- `group` makes the tests of `groupAt`; the entry that it reads is inside because the whole table is.
-use borrow.Author.Rules.{rules}
 use native.Mathlib.Omega.{arith}
 use Prim.Native.Nat.{◌+◌, ◌*◌, ◌≤◌}
 use mathlib.Core.Path.{◌≡◌, sym, ◌∙◌}

@@ -1,5 +1,4 @@
 -- `is_inside` makes the three tests of `isRecordInside`.
-use borrow.Author.Rules.{rules}
 use borrow.Author.Tests.{le-leb, lt-leb}
 use Rattle.fields.proofs.laws.Part.{refuted, confirmed}
 use Rattle.lookup.proofs.by_number.is_inside.Goals as goal

@@ -1,6 +1,5 @@
 -- `any_field` is `field_at`: the tag's answer, and behind a tag the payload's. The tag's value is put together from its parts, which
 -- `split` takes apart again.
-use borrow.Author.Rules.{rules}
 use native.Mathlib.Omega.{arith}
 use mathlib.Core.Path.{◌≡◌, sym, ◌∙◌}
 use Rattle.protobuf.specs.Tag.{tag_by, tag_at, tagged}

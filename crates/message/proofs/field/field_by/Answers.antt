@@ -1,5 +1,4 @@
 -- `field_by` is `withPayload`, by the payload's case.
-use borrow.Author.Rules.{rules}
 use mathlib.Core.Path.{sym, ap}
 use Rattle.protobuf.specs.Tag.{split}
 use Rattle.message.specs.Answers.{payload_of}

@@ -1,5 +1,4 @@
 -- `field_in` takes the word apart as `fieldIn` does.
-use borrow.Author.Rules.{rules}
 use Prim.Native.Nat.{◌%◌}
 use mathlib.Core.Path.{sym}
 use borrow.Author.Tests.{eq-eqb, ne_eqb}

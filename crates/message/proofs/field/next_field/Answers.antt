@@ -1,5 +1,4 @@
 -- `next_field` is `field_at`, by its word where there is one, and else by `any_field`.
-use borrow.Author.Rules.{rules}
 use mathlib.Core.Path.{sym, ◌∙◌}
 use Rattle.message.proofs.field.next_field.Goals as goal
 

@@ -1,5 +1,4 @@
 -- `short_field` tells a field by its tag's byte and the word of the varint behind it.
-use borrow.Author.Rules.{rules}
 use native.Mathlib.Omega.{arith}
 use mathlib.Core.Path.{refl}
 use Rattle.protobuf.proofs.laws.Column.{short-varint}

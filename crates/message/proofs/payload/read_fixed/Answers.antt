@@ -1,5 +1,4 @@
 -- `read_fixed` holds the size against what is left, as `fixed` does.
-use borrow.Author.Rules.{rules}
 use native.Mathlib.Omega.{arith}
 use mathlib.Core.Path.{sym}
 use Rattle.message.proofs.laws.Payload.{fixed-past, fixed-taken}

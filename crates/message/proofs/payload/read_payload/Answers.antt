@@ -3,7 +3,6 @@ use mathlib.Core.Path.{sym, ◌∙◌}
 use Rattle.message.specs.Answers.{skip_of}
 use Rattle.protobuf.proofs.laws.Read.{says, goes_on, handed-up, reached}
 use Rattle.message.proofs.laws.Group.{group_reach, payload-outside, payload-single, payload-group}
-use borrow.Author.Rules.{rules}
 use native.Mathlib.Omega.{arith}
 use Rattle.message.proofs.payload.read_payload.Goals as goal
 

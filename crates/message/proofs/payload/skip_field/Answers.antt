@@ -2,7 +2,6 @@
 use mathlib.Core.Path.{sym}
 use Rattle.message.specs.Answers.{payload_of}
 use Rattle.protobuf.proofs.laws.Read.{says, goes_on, handed-up}
-use borrow.Author.Rules.{rules}
 use Rattle.message.proofs.payload.skip_field.Goals as goal
 
 pub returns-in-Refused : goal.returns-in-Refused

@@ -2,13 +2,7 @@
 -- definition's group. Each tag closes the innermost, opens another in it, or stands before a payload that is passed over.
 use Prim.Native.Nat.{◌-◌}
 use lib.ListN.{length}
-use Rattle.message.proofs.laws.Group.{Open, Found, opens, ended, tag-refused, other-end, closes-last, closes_inner, too_deep, opens_inner, value-refused, passes, further, falls, falls-behind}
-use Rattle.protobuf.proofs.laws.Read.{says}
-use Rattle.protobuf.specs.Tag.{tag_by}
-use Rattle.protobuf.specs.Answers.{tag_of}
-use Rattle.message.specs.Answers.{payload_of}
-use mathlib.Core.Path.{refl, sym}
-use borrow.Author.Rules.{rules}
+use Rattle.message.proofs.laws.Group.{Open}
 use Rattle.message.proofs.payload.skip_group.Given as goal
 
 abbrev pub invariant-loop-n : goal.invariant-loop-n

@@ -1,5 +1,5 @@
 -- `read_u32` reads 0 where the bytes pass the end, else it sums its four bytes by their weights, each below 256.
-use Rattle.std.proofs.Common.{sym, arith, rules}
+use Rattle.std.proofs.Common.{sym, arith}
 use Rattle.numbers.proofs.laws.Little.{FourBytes, four_bytes, number_four, number-outside}
 use Rattle.numbers.proofs.little.read_u32.Goals as goal
 

@@ -1,5 +1,5 @@
 -- `read_u64` reads 0 where the bytes pass the end, else its two halves by their weights.
-use Rattle.std.proofs.Common.{sym, arith, rules}
+use Rattle.std.proofs.Common.{sym, arith}
 use Rattle.numbers.proofs.laws.Little.{number-outside, number-split}
 use Rattle.numbers.proofs.little.read_u64.Goals as goal
 

@@ -1,5 +1,5 @@
 -- `write_u32` writes nothing where the bytes pass the end, else the number's four bytes one behind the other.
-use Rattle.std.proofs.Common.{sym, arith, length-set, rules}
+use Rattle.std.proofs.Common.{sym, arith, length-set}
 use Rattle.numbers.proofs.laws.Little.{writes_four, writes_outside}
 use Rattle.numbers.proofs.little.write_u32.Goals as goal
 

@@ -1,5 +1,5 @@
 -- `write_u64` writes nothing where the bytes pass the end, else its two halves, one behind the other.
-use Rattle.std.proofs.Common.{sym, arith, rules}
+use Rattle.std.proofs.Common.{sym, arith}
 use Rattle.numbers.proofs.laws.Little.{writes_outside, halves_written}
 use Rattle.numbers.proofs.little.write_u64.Goals as goal
 

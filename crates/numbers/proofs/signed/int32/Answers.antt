@@ -1,5 +1,5 @@
 -- `int32` reads the lowest 32 bits of n as signed: those from 2^31 on are complemented to be cast, and complemented back.
-use Rattle.std.proofs.Common.{refl, w32, rules}
+use Rattle.std.proofs.Common.{refl, w32}
 use Rattle.numbers.proofs.laws.Machine.{reads-twos, complemented_twos}
 use Rattle.numbers.proofs.signed.int32.Goals as goal
 

@@ -1,5 +1,5 @@
 -- `int64` reads the bits of n as signed: those from 2^63 on are complemented to be cast, and complemented back.
-use Rattle.std.proofs.Common.{arith, w64, rules}
+use Rattle.std.proofs.Common.{arith, w64}
 use Rattle.numbers.proofs.laws.Machine.{reads-twos, complemented_twos}
 use Rattle.numbers.proofs.signed.int64.Goals as goal
 

@@ -1,5 +1,5 @@
 -- `nanodegrees` is right since wrapping keeps residues: a sum with a wrapped product wraps to what the sum with the product does.
-use Rattle.std.proofs.Common.{◌≡◌, ◌+ℤ◌, ◌*ℤ◌, ◌∙◌, to_z-of_z, w64, rules}
+use Rattle.std.proofs.Common.{◌≡◌, ◌+ℤ◌, ◌*ℤ◌, ◌∙◌, to_z-of_z, w64}
 use mir.Facts.{sfits_widen}
 use Rattle.numbers.specs.Signed.{wrap}
 use Rattle.numbers.proofs.laws.Signed.{wrap-add-wrap}

@@ -1,5 +1,5 @@
 -- `wrapping_add_i32` is right since the bits of a sum are the sum of the bits, modulo 2^32.
-use Rattle.std.proofs.Common.{◌∙◌, w32, rules}
+use Rattle.std.proofs.Common.{◌∙◌, w32}
 use Rattle.numbers.proofs.laws.Signed.{twos-sum}
 use Rattle.numbers.proofs.laws.Machine.{passed, returned}
 use Rattle.numbers.proofs.signed.wrapping_add_i32.Goals as goal

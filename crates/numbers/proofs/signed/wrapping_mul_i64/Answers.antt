@@ -1,5 +1,5 @@
 -- `wrapping_mul_i64` is right since the bits of a product are the product of the bits, modulo 2^64.
-use Rattle.std.proofs.Common.{◌∙◌, w64, rules}
+use Rattle.std.proofs.Common.{◌∙◌, w64}
 use Rattle.numbers.proofs.laws.Signed.{twos-product}
 use Rattle.numbers.proofs.laws.Machine.{passed, returned}
 use Rattle.numbers.proofs.signed.wrapping_mul_i64.Goals as goal

@@ -1,5 +1,5 @@
 -- `wrapping_mul_u64` is right since of the four products of halves the highest is a multiple of 2^64, and the others are added modulo it.
-use Rattle.std.proofs.Common.{◌∙◌, arith, rules}
+use Rattle.std.proofs.Common.{◌∙◌, arith}
 use Rattle.numbers.proofs.laws.Modulo.{product-below, product-of_halves}
 use Rattle.numbers.proofs.signed.wrapping_mul_u64.Goals as goal
 

@@ -1,5 +1,5 @@
 -- `zigzag_i32` takes half of the lowest 32 bits, and complements it where they are odd: the complement of k is −(k + 1).
-use Rattle.std.proofs.Common.{refl, w32, rules}
+use Rattle.std.proofs.Common.{refl, w32}
 use Rattle.numbers.proofs.laws.Machine.{reads-zigzag, complemented_zigzag}
 use Rattle.numbers.proofs.signed.zigzag_i32.Goals as goal
 

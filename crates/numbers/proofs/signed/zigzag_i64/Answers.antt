@@ -1,5 +1,5 @@
 -- `zigzag_i64` takes half of n, and complements it where n is odd: the complement of k is −(k + 1).
-use Rattle.std.proofs.Common.{arith, w64, rules}
+use Rattle.std.proofs.Common.{arith, w64}
 use Rattle.numbers.proofs.laws.Machine.{reads-zigzag, complemented_zigzag}
 use Rattle.numbers.proofs.signed.zigzag_i64.Goals as goal
 

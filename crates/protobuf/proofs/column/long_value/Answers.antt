@@ -1,5 +1,4 @@
 -- `long_value` hands on what the varint before the column's end is.
-use borrow.Author.Rules.{rules}
 use lib.Seq.{length-take-le}
 use mathlib.Core.Path.{sym, ap, ◌∙◌}
 use Rattle.protobuf.specs.Answers.{varint_of, step_by}

@@ -1,6 +1,5 @@
 -- `next_value` finds what `stepAt` says: the state's test, the end, a value of one byte or of two, or the varint that may not pass the column's
 -- end.
-use borrow.Author.Rules.{rules}
 use mathlib.Core.Path.{refl, sym, ap, ◌∙◌}
 use native.Mathlib.Omega.{arith}
 use Rattle.protobuf.specs.Answers.{step_by}

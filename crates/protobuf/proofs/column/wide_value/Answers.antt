@@ -1,5 +1,4 @@
 -- `wide_value` serves what the varint before the column's end is, where its word fits.
-use borrow.Author.Rules.{rules}
 use native.Mathlib.Omega.{arith}
 use lib.Dec.{lit<}
 use lib.Seq.{length-take-le}

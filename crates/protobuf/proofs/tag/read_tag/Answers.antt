@@ -1,5 +1,4 @@
 -- `read_tag` answers what `tag_at` says: the end, the varint's refusal, or what `legal` makes of its value.
-use borrow.Author.Rules.{rules}
 use native.Mathlib.Omega.{arith}
 use mathlib.Core.Path.{◌≡◌, sym}
 use Rattle.protobuf.specs.Read.{taken}

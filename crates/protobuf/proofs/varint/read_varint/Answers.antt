@@ -1,8 +1,7 @@
 -- `read_varint` reads what `varint` says: the bytes so far have given `value`, and the definition resumes where the loop stands.
 use native.Mathlib.Omega.{arith}
 use mathlib.Core.Path.{sym}
-use Prim.Native.Nat.{◌-◌}
-use Rattle.protobuf.proofs.laws.Varint.{Reading, starts, outside, too_long, cut, fits, last, more}
+use Rattle.protobuf.proofs.laws.Varint.{starts, outside, too_long, cut, fits, last, more}
 use Rattle.protobuf.proofs.varint.read_varint.Goals as goal
 
 pub returns-then-s-at : goal.returns-then-s-at

@@ -1,8 +1,6 @@
 -- `read_varint` reads what `varint` says: the bytes so far have given `value`, and the definition resumes where the loop stands.
-use native.Mathlib.Omega.{arith}
-use mathlib.Core.Path.{sym}
 use Prim.Native.Nat.{◌-◌}
-use Rattle.protobuf.proofs.laws.Varint.{Reading, starts, outside, too_long, cut, fits, last, more}
+use Rattle.protobuf.proofs.laws.Varint.{Reading}
 use Rattle.protobuf.proofs.varint.read_varint.Given as goal
 
 abbrev pub invariant-loop-k : goal.invariant-loop-k

@@ -1,5 +1,4 @@
 -- `dense_info_of` is `denseInfoOf`, field by field.
-use borrow.Author.Rules.{rules}
 use Rattle.views.proofs.dense_info.dense_info_of.Goals as goal
 
 pub returns : goal.returns

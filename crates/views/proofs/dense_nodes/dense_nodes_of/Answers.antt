@@ -1,5 +1,4 @@
 -- `dense_nodes_of` is `denseNodesOf`, field by field.
-use borrow.Author.Rules.{rules}
 use Rattle.views.proofs.dense_nodes.dense_nodes_of.Goals as goal
 
 pub returns : goal.returns

@@ -1,5 +1,4 @@
 -- `info_fields` is `infoFields`, field by field.
-use borrow.Author.Rules.{rules}
 use Rattle.views.proofs.info.info_fields.Goals as goal
 
 pub returns : goal.returns

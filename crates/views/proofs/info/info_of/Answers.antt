@@ -1,7 +1,6 @@
 -- `info_of` is `infoOf`, field by field, from what each call ensures.
 use mathlib.Core.Path.{ap, ◌∙◌}
 use Rattle.views.specs.Info.{int32_of, int64_of}
-use borrow.Author.Rules.{rules}
 use Rattle.views.proofs.info.info_of.Goals as goal
 
 pub returns : goal.returns

@@ -1,7 +1,6 @@
 -- `int32_of` is `int32Of`, by whether the number is present.
 use mir.Syntax.{w32}
 use Rattle.numbers.proofs.laws.Machine.{returned}
-use borrow.Author.Rules.{rules}
 use Rattle.views.proofs.info.int32_of.Goals as goal
 
 pub returns-then-x : goal.returns-then-x

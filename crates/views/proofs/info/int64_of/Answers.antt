@@ -1,7 +1,6 @@
 -- `int64_of` is `int64Of`, by whether the number is present.
 use mir.Syntax.{w64}
 use Rattle.numbers.proofs.laws.Machine.{returned}
-use borrow.Author.Rules.{rules}
 use Rattle.views.proofs.info.int64_of.Goals as goal
 
 pub returns-then-x : goal.returns-then-x

@@ -1,7 +1,6 @@
 -- `unless_minus_one32` is `unlessMinusOne` at 32 bits: the machine compares bits, and −1 alone has all of them set.
 use mir.Syntax.{w32}
 use Rattle.views.proofs.laws.Info.{minus_one, not-minus-one}
-use borrow.Author.Rules.{rules}
 use Rattle.views.proofs.info.unless_minus_one32.Goals as goal
 
 pub returns-then-int32-eq4294967295 : goal.returns-then-int32-eq4294967295

@@ -1,7 +1,6 @@
 -- `unless_minus_one64` is `unlessMinusOne` at 64 bits: the machine compares bits, and −1 alone has all of them set.
 use mir.Syntax.{w64}
 use Rattle.views.proofs.laws.Info.{minus_one, not-minus-one}
-use borrow.Author.Rules.{rules}
 use Rattle.views.proofs.info.unless_minus_one64.Goals as goal
 
 pub returns-then-int64-eq18446744073709551615 : goal.returns-then-int64-eq18446744073709551615

@@ -1,5 +1,4 @@
 -- `node_of` is `node_of`, field by field.
-use borrow.Author.Rules.{rules}
 use mathlib.Core.Path.{ap, ◌∙◌}
 use mir.Syntax.{w64}
 use lib.IntN.{ℤ}

@@ -1,5 +1,4 @@
 -- `rule_of` asks the view's own match.
-use borrow.Author.Rules.{rules}
 use Rattle.views.proofs.slots.rule_of.Goals as goal
 
 pub returns-in-Node : goal.returns-in-Node

@@ -1,5 +1,4 @@
 -- `slot_in` is the number at its place and the part.
-use borrow.Author.Rules.{rules}
 use mathlib.Core.Path.{ap}
 use Rattle.fields.specs.View.{slot_by}
 use Rattle.views.proofs.slots.slot_in.Goals as goal

@@ -1,5 +1,4 @@
 -- `store` puts the four numbers of a slot, and no number of another place changes.
-use borrow.Author.Rules.{rules}
 use native.Mathlib.Omega.{arith}
 use lib.ListN.{length-set}
 use Rattle.views.proofs.laws.Slots.{put-at-place}

@@ -1,5 +1,4 @@
 -- `way_of` is `way_of`, field by field.
-use borrow.Author.Rules.{rules}
 use mathlib.Core.Path.{ap, ◌∙◌}
 use mir.Syntax.{w64}
 use Rattle.numbers.specs.Signed.{twos}

@@ -4,7 +4,6 @@ use native.Mathlib.Omega.{arith}
 use mathlib.Core.Path.{sym}
 use borrow.Author.Tests.{lt-leb}
 use Rattle.numbers.proofs.laws.Choose.{same_test}
-use borrow.Author.Rules.{rules}
 use Rattle.wire.proofs.scan.has_room.Goals as goal
 
 pub returns-then-room-strings : goal.returns-then-room-strings

@@ -2,7 +2,6 @@
 use Prim.Native.Nat.{◌+◌, ◌*◌}
 use mir.Syntax.{w32, w64}
 use Rattle.numbers.proofs.laws.Machine.{returned}
-use borrow.Author.Rules.{rules}
 use Rattle.wire.proofs.scan.record_of.Goals as goal
 
 pub returns : goal.returns

@@ -5,7 +5,6 @@ use Rattle.protobuf.proofs.laws.Read.{says}
 use Rattle.fields.specs.Outcome.{each}
 use Rattle.wire.specs.Scan.{counted, meta, after_scan}
 use Rattle.wire.proofs.laws.Scan.{strings-within, strings-refused, strings-read, strings-counted}
-use borrow.Author.Rules.{rules}
 use Rattle.wire.proofs.scan.scan_strings.Goals as goal
 
 pub overflow_add-end : goal.overflow_add-end

@@ -3,9 +3,8 @@ use native.Mathlib.Omega.{arith}
 use lib.ListN.{length, length-take, length-drop}
 use Rattle.message.specs.Answers.{field_of}
 use Rattle.protobuf.proofs.laws.Read.{says}
-use Rattle.wire.proofs.laws.Filling.{Filling, fill_begins, fill_ends, fill_length, fill_further, fill_within, fill_skips, fill_room, fill_writes}
-use Prim.Native.Nat.{◌+◌, ◌-◌, ◌≤◌}
-use borrow.Author.Rules.{rules}
+use Rattle.wire.proofs.laws.Filling.{fill_begins, fill_ends, fill_length, fill_further, fill_within, fill_skips, fill_room, fill_writes}
+use Prim.Native.Nat.{◌+◌, ◌≤◌}
 use Rattle.wire.proofs.tables.write_entries.Goals as goal
 
 pub slice_bounds-next_field-end : goal.slice_bounds-next_field-end

@@ -1,11 +1,6 @@
 -- `write_entries` writes the entries of `entries` one behind the other; the message that it reads stands before them and stays as it was.
-use native.Mathlib.Omega.{arith}
-use lib.ListN.{length, length-take, length-drop}
-use Rattle.message.specs.Answers.{field_of}
-use Rattle.protobuf.proofs.laws.Read.{says}
-use Rattle.wire.proofs.laws.Filling.{Filling, fill_begins, fill_ends, fill_length, fill_further, fill_within, fill_skips, fill_room, fill_writes}
-use Prim.Native.Nat.{◌+◌, ◌-◌, ◌≤◌}
-use borrow.Author.Rules.{rules}
+use Rattle.wire.proofs.laws.Filling.{Filling}
+use Prim.Native.Nat.{◌-◌}
 use Rattle.wire.proofs.tables.write_entries.Given as goal
 
 abbrev pub invariant-loop-t : goal.invariant-loop-t

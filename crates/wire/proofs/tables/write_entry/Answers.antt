@@ -1,5 +1,4 @@
 -- `write_entry` writes the entry's two numbers, one behind the other.
-use borrow.Author.Rules.{rules}
 use native.Mathlib.Omega.{arith}
 use Rattle.wire.proofs.laws.Tables.{entry-written}
 use Rattle.wire.proofs.tables.write_entry.Goals as goal

@@ -1,5 +1,4 @@
 -- `RelMemberIter::new` starts the three columns of a relation at their parts; no other element has members.
-use borrow.Author.Rules.{rules}
 use mathlib.Core.Path.{sym, ap, ◌∙◌}
 use Rattle.elements.specs.Members.{members_start}
 use Rattle.elements.specs.declared.members.RelMemberIter.TheVariants as iter

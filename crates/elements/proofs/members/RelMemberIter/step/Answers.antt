@@ -1,5 +1,4 @@
 -- `RelMemberIter::step` says ended of an ended state, whatever the buffer and the record are, and else steps.
-use borrow.Author.Rules.{rules}
 use mathlib.Core.Path.{sym, ap, ◌∙◌}
 use Rattle.elements.specs.Members.{members_from}
 use Rattle.elements.proofs.members.RelMemberIter.step.Goals as goal

@@ -1,5 +1,4 @@
 -- `WayRefIter::new` starts the sums of a way's refs at their part; no other element has references.
-use borrow.Author.Rules.{rules}
 use mathlib.Core.Path.{sym, ap, ◌∙◌}
 use Rattle.elements.specs.References.{refs_start}
 use Rattle.elements.specs.declared.references.WayRefIter.TheVariants as iter

@@ -1,5 +1,4 @@
 -- `WayRefIter::step` says ended of an ended state, whatever the buffer is, and else steps.
-use borrow.Author.Rules.{rules}
 use mathlib.Core.Path.{sym, ap, ◌∙◌}
 use Rattle.elements.specs.References.{refs_from}
 use Rattle.elements.proofs.references.WayRefIter.step.Goals as goal

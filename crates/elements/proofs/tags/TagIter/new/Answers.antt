@@ -1,5 +1,4 @@
 -- `TagIter::new` stands before a dense node's pairs, and at the start of another element's keys and vals.
-use borrow.Author.Rules.{rules}
 use mathlib.Core.Path.{sym, ap, ◌∙◌}
 use Rattle.elements.specs.Tags.{tags_start}
 use Rattle.elements.proofs.tags.TagIter.new.Goals as goal

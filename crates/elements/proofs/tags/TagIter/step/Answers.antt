@@ -1,5 +1,4 @@
 -- `TagIter::step` says ended of an ended state, whatever the buffer and the record are, and else steps with the texts.
-use borrow.Author.Rules.{rules}
 use mathlib.Core.Path.{sym, ap, ◌∙◌}
 use Rattle.elements.specs.Tags.{tags_by, tags_from}
 use Rattle.elements.proofs.tags.TagIter.step.Goals as goal

@@ -1,5 +1,4 @@
 -- `TagIter::step_raw` says ended of an ended state, whatever the buffer is, and else steps in keys and vals or in keys_vals.
-use borrow.Author.Rules.{rules}
 use mathlib.Core.Path.{refl, sym, ap, ◌∙◌}
 use Rattle.elements.specs.Tags.{raw_tags_from}
 use Rattle.elements.proofs.laws.Tags.{pairs-ended}

@@ -1,5 +1,4 @@
 -- `TagIter::with_texts` tests the record, steps in numbers, and looks the texts of a pair up.
-use borrow.Author.Rules.{rules}
 use mathlib.Core.Bool.{true}
 use mathlib.Core.Path.{◌≡◌, refl, ◌∙◌}
 use Rattle.fields.proofs.laws.Part.{refuted, confirmed}

@@ -1,5 +1,4 @@
 -- `WireMessageIter::step` says ended of an ended state, whatever the buffer is, and else steps from its place.
-use borrow.Author.Rules.{rules}
 use mathlib.Core.Path.{sym, ap, ◌∙◌}
 use Rattle.groups.specs.Group.{message_step}
 use Rattle.groups.proofs.group.WireMessageIter.step.Goals as goal

@@ -1,5 +1,4 @@
 -- `WireDenseNodes::parse` views the part and hands the record out.
-use borrow.Author.Rules.{rules}
 use mathlib.Core.Path.{ap, ◌∙◌}
 use Rattle.fields.specs.Outcome.{kept}
 use Rattle.views.specs.DenseNodes.{dense_nodes_of}

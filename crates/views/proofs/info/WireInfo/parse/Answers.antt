@@ -1,5 +1,4 @@
 -- `WireInfo::parse` views the part and hands the record out, which does not tell where the message stands.
-use borrow.Author.Rules.{rules}
 use mathlib.Core.Path.{ap, ◌∙◌}
 use Rattle.views.specs.declared.info.WireInfo.{WireInfo}
 use Rattle.fields.specs.Outcome.{kept, each}

@@ -1,5 +1,4 @@
 -- `WireNode::parse` views the part and hands the record out.
-use borrow.Author.Rules.{rules}
 use mathlib.Core.Path.{ap, ◌∙◌}
 use Rattle.fields.specs.Outcome.{kept}
 use Rattle.views.specs.Node.{node_of}

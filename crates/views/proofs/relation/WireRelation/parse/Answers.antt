@@ -1,5 +1,4 @@
 -- `WireRelation::parse` views the part and hands the record out.
-use borrow.Author.Rules.{rules}
 use mathlib.Core.Path.{ap, ◌∙◌}
 use Rattle.fields.specs.Outcome.{kept}
 use Rattle.views.specs.Relation.{relation_of}

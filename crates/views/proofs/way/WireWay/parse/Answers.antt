@@ -1,5 +1,4 @@
 -- `WireWay::parse` views the part and hands the record out.
-use borrow.Author.Rules.{rules}
 use mathlib.Core.Path.{ap, ◌∙◌}
 use Rattle.fields.specs.Outcome.{kept}
 use Rattle.views.specs.Way.{way_of}
