@@ -4,6 +4,8 @@ use crate::out::{end_line, input, input_at, input_between, named, named_signed, 
 use message::payload::{Payload, read_len_delimited};
 use numbers::signed::{wrapping_add_i64, zigzag_i64};
 use protobuf::column::{Column, Step, next_value};
+use std::io;
+use std::io::Write;
 
 // Where a reader goes on, or that it has ended.
 #[derive(Clone, Copy)]
@@ -13,50 +15,51 @@ enum Going {
 }
 
 // One step, printed.
-fn step(s: &[u8], state: Column) -> Going {
+fn step<W: Write>(out: &mut W, s: &[u8], state: Column) -> io::Result<Going> {
     let r = next_value(s, state);
     match r {
         Step::Value { value, next } => {
-            named(b" ", value);
-            named(b" (next ", next.at as u64);
-            text(b"),");
-            Going::On(next)
+            named(out, b" ", value)?;
+            named(out, b" (next ", next.at as u64)?;
+            text(out, b"),")?;
+            Ok(Going::On(next))
         }
         Step::Refused { refusal, next } => {
-            refused(refusal);
-            text(b",");
-            Going::On(next)
+            refused(out, refusal)?;
+            text(out, b",")?;
+            Ok(Going::On(next))
         }
         Step::Ended => {
-            text(b" ended");
-            Going::Ended
+            text(out, b" ended")?;
+            Ok(Going::Ended)
         }
     }
 }
 
 // Each value takes a byte at least, so no column has more steps than bytes, but for a refused one and the one that says ended.
-fn steps(s: &[u8], column: Column) {
+fn steps<W: Write>(out: &mut W, s: &[u8], column: Column) -> io::Result<()> {
     let mut state = column;
     let mut left = s.len() + 2;
     while 0 < left {
         left -= 1;
-        let g = step(s, state);
+        let g = step(out, s, state)?;
         let Going::On(next) = g else {
-            return;
+            return Ok(());
         };
         state = next;
     }
+    Ok(())
 }
 
-fn column(label: &[u8], s: &[u8], at: usize, end: usize) {
-    input_between(label, s, at, end);
-    steps(s, Column { at, end });
-    end_line();
+fn column<W: Write>(out: &mut W, label: &[u8], s: &[u8], at: usize, end: usize) -> io::Result<()> {
+    input_between(out, label, s, at, end)?;
+    steps(out, s, Column { at, end })?;
+    end_line(out)
 }
 
 // The column that a length-delimited field holds. `at` is the place behind its tag.
-fn packed(label: &[u8], s: &[u8], at: usize) {
-    input_at(label, s, at);
+fn packed<W: Write>(out: &mut W, label: &[u8], s: &[u8], at: usize) -> io::Result<()> {
+    input_at(out, label, s, at)?;
     let r = read_len_delimited(s, at);
     match r {
         Payload::Taken {
@@ -65,15 +68,16 @@ fn packed(label: &[u8], s: &[u8], at: usize) {
             len: _,
             next,
         } => steps(
+            out,
             s,
             Column {
                 at: start,
                 end: next,
             },
-        ),
-        Payload::Refused(n) => refused(n),
+        )?,
+        Payload::Refused(n) => refused(out, n)?,
     }
-    end_line();
+    end_line(out)
 }
 
 // A column of sint64 differences under way: its reader, and the sum so far.
@@ -91,21 +95,21 @@ enum Sum {
 }
 
 // The next sum, which wraps, printed.
-fn add_next(s: &[u8], running: Running) -> Sum {
+fn add_next<W: Write>(out: &mut W, s: &[u8], running: Running) -> io::Result<Sum> {
     let state = running.state;
     let so_far = running.sum;
     let r = next_value(s, state);
     let Step::Value { value, next } = r else {
-        return Sum::Ended;
+        return Ok(Sum::Ended);
     };
     let sum = wrapping_add_i64(so_far, zigzag_i64(value));
-    named_signed(b" ", sum);
-    Sum::So(Running { state: next, sum })
+    named_signed(out, b" ", sum)?;
+    Ok(Sum::So(Running { state: next, sum }))
 }
 
 // The sums of a whole column, which takes a byte at least for each.
-fn sums(label: &[u8], s: &[u8]) {
-    input(label, s);
+fn sums<W: Write>(out: &mut W, label: &[u8], s: &[u8]) -> io::Result<()> {
+    input(out, label, s)?;
     let mut running = Running {
         state: Column {
             at: 0,
@@ -116,51 +120,58 @@ fn sums(label: &[u8], s: &[u8]) {
     let mut left = s.len();
     while 0 < left {
         left -= 1;
-        let r = add_next(s, running);
+        let r = add_next(out, s, running)?;
         let Sum::So(next) = r else {
             break;
         };
         running = next;
     }
-    end_line();
+    end_line(out)
 }
 
 // The text's packed field: 3, 270 and 86942.
-fn whole() {
-    packed(b"packed", b"\x32\x06\x03\x8E\x02\x9E\xA7\x05", 1);
-    packed(b"packed empty", b"\x32\x00", 1);
-    packed(b"packed one byte short", b"\x32\x06\x03\x8E\x02\x9E\xA7", 1);
-    column(b"column of nothing", b"", 0, 0);
-    column(b"column of one", b"\x96\x01", 0, 2);
-    column(b"column from inside", b"\x03\x8E\x02", 1, 3);
-    column(b"column at its end", b"\x03\x8E\x02", 1, 1);
+fn whole<W: Write>(out: &mut W) -> io::Result<()> {
+    packed(out, b"packed", b"\x32\x06\x03\x8E\x02\x9E\xA7\x05", 1)?;
+    packed(out, b"packed empty", b"\x32\x00", 1)?;
+    packed(
+        out,
+        b"packed one byte short",
+        b"\x32\x06\x03\x8E\x02\x9E\xA7",
+        1,
+    )?;
+    column(out, b"column of nothing", b"", 0, 0)?;
+    column(out, b"column of one", b"\x96\x01", 0, 2)?;
+    column(out, b"column from inside", b"\x03\x8E\x02", 1, 3)?;
+    column(out, b"column at its end", b"\x03\x8E\x02", 1, 1)
 }
 
 // A varint may pass neither the bytes nor the column's end, and a state must be inside the bytes.
-fn cut() {
-    column(b"column cut", b"\x03\x8E", 0, 2);
-    column(b"column cut by its end", b"\x03\x8E\x02", 0, 2);
+fn cut<W: Write>(out: &mut W) -> io::Result<()> {
+    column(out, b"column cut", b"\x03\x8E", 0, 2)?;
+    column(out, b"column cut by its end", b"\x03\x8E\x02", 0, 2)?;
     column(
+        out,
         b"column of ten FF",
         b"\xFF\xFF\xFF\xFF\xFF\xFF\xFF\xFF\xFF\xFF",
         0,
         10,
-    );
-    column(b"column that passes the bytes", b"\x03", 0, 2);
-    column(b"column behind its end", b"\x03", 1, 0);
+    )?;
+    column(out, b"column that passes the bytes", b"\x03", 0, 2)?;
+    column(out, b"column behind its end", b"\x03", 1, 0)
 }
 
 // Document 01's examples 7 and 8: references, and ids whose second sum wraps.
-fn differences() {
-    sums(b"sums of references", b"\x02\x02\x01");
+fn differences<W: Write>(out: &mut W) -> io::Result<()> {
+    sums(out, b"sums of references", b"\x02\x02\x01")?;
     sums(
+        out,
         b"sums of ids",
         b"\xFE\xFF\xFF\xFF\xFF\xFF\xFF\xFF\xFF\x01\x02",
-    );
+    )
 }
 
-pub(crate) fn run() {
-    whole();
-    cut();
-    differences();
+pub(crate) fn run<W: Write>(out: &mut W) -> io::Result<()> {
+    whole(out)?;
+    cut(out)?;
+    differences(out)
 }

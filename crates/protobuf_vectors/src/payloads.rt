@@ -3,6 +3,8 @@
 use crate::out::{bytes, end_line, input_at, named, refused, text};
 use message::payload::{Payload, read_len_delimited, read_payload, read_raw_varint};
 use protobuf::tag::{Tag, read_tag};
+use std::io;
+use std::io::Write;
 
 // The part of `s` that an answer names: empty where it passes the bytes, so that such an answer shows in what is printed.
 fn part(s: &[u8], start: usize, len: usize) -> &[u8] {
@@ -16,7 +18,7 @@ fn part(s: &[u8], start: usize, len: usize) -> &[u8] {
     &s[start..end]
 }
 
-fn payload(s: &[u8], r: Payload) {
+fn payload<W: Write>(out: &mut W, s: &[u8], r: Payload) -> io::Result<()> {
     match r {
         Payload::Taken {
             value,
@@ -24,59 +26,61 @@ fn payload(s: &[u8], r: Payload) {
             len,
             next,
         } => {
-            named(b" value ", value);
-            named(b", start ", start as u64);
-            named(b", length ", len as u64);
-            named(b", next ", next as u64);
-            text(b", raw");
-            bytes(part(s, start, len));
+            named(out, b" value ", value)?;
+            named(out, b", start ", start as u64)?;
+            named(out, b", length ", len as u64)?;
+            named(out, b", next ", next as u64)?;
+            text(out, b", raw")?;
+            bytes(out, part(s, start, len))?;
         }
-        Payload::Refused(n) => refused(n),
+        Payload::Refused(n) => refused(out, n)?,
     }
+    Ok(())
 }
 
-fn raw_varint(label: &[u8], s: &[u8], at: usize) {
-    input_at(label, s, at);
-    payload(s, read_raw_varint(s, at));
-    end_line();
+fn raw_varint<W: Write>(out: &mut W, label: &[u8], s: &[u8], at: usize) -> io::Result<()> {
+    input_at(out, label, s, at)?;
+    payload(out, s, read_raw_varint(s, at))?;
+    end_line(out)
 }
 
-fn delimited(label: &[u8], s: &[u8], at: usize) {
-    input_at(label, s, at);
-    payload(s, read_len_delimited(s, at));
-    end_line();
+fn delimited<W: Write>(out: &mut W, label: &[u8], s: &[u8], at: usize) -> io::Result<()> {
+    input_at(out, label, s, at)?;
+    payload(out, s, read_len_delimited(s, at))?;
+    end_line(out)
 }
 
 // The payload of a type that the bytes do not say, since no tag stands before it.
-fn typed(label: &[u8], s: &[u8], at: usize, wire: u32) {
-    input_at(label, s, at);
-    payload(s, read_payload(s, at, 1, wire));
-    end_line();
+fn typed<W: Write>(out: &mut W, label: &[u8], s: &[u8], at: usize, wire: u32) -> io::Result<()> {
+    input_at(out, label, s, at)?;
+    payload(out, s, read_payload(s, at, 1, wire))?;
+    end_line(out)
 }
 
-fn field_at(s: &[u8], at: usize) {
+fn field_at<W: Write>(out: &mut W, s: &[u8], at: usize) -> io::Result<()> {
     let t = read_tag(s, at);
     match t {
-        Tag::Done => text(b" done"),
+        Tag::Done => text(out, b" done")?,
         Tag::Field { field, wire, next } => {
-            named(b" field ", field as u64);
-            named(b", type ", wire as u64);
-            text(b":");
-            payload(s, read_payload(s, next, field, wire));
+            named(out, b" field ", field as u64)?;
+            named(out, b", type ", wire as u64)?;
+            text(out, b":")?;
+            payload(out, s, read_payload(s, next, field, wire))?;
         }
-        Tag::Refused(n) => refused(n),
+        Tag::Refused(n) => refused(out, n)?,
     }
+    Ok(())
 }
 
-fn field(label: &[u8], s: &[u8], at: usize) {
-    input_at(label, s, at);
-    field_at(s, at);
-    end_line();
+fn field<W: Write>(out: &mut W, label: &[u8], s: &[u8], at: usize) -> io::Result<()> {
+    input_at(out, label, s, at)?;
+    field_at(out, s, at)?;
+    end_line(out)
 }
 
 // The bytes of a string field, as the text that they spell. `at` is the place behind its tag.
-fn string(label: &[u8], s: &[u8], at: usize) {
-    input_at(label, s, at);
+fn string<W: Write>(out: &mut W, label: &[u8], s: &[u8], at: usize) -> io::Result<()> {
+    input_at(out, label, s, at)?;
     let r = read_len_delimited(s, at);
     match r {
         Payload::Taken {
@@ -85,18 +89,18 @@ fn string(label: &[u8], s: &[u8], at: usize) {
             len,
             next: _,
         } => {
-            text(b" ");
-            text(part(s, start, len));
+            text(out, b" ")?;
+            text(out, part(s, start, len))?;
         }
-        Payload::Refused(n) => refused(n),
+        Payload::Refused(n) => refused(out, n)?,
     }
-    end_line();
+    end_line(out)
 }
 
 // The first field of an embedded message, whose places count from the start of the part that the outer field's length counts. `at` is the
 // place behind the outer tag.
-fn inside(label: &[u8], s: &[u8], at: usize) {
-    input_at(label, s, at);
+fn inside<W: Write>(out: &mut W, label: &[u8], s: &[u8], at: usize) -> io::Result<()> {
+    input_at(out, label, s, at)?;
     let r = read_len_delimited(s, at);
     match r {
         Payload::Taken {
@@ -104,85 +108,90 @@ fn inside(label: &[u8], s: &[u8], at: usize) {
             start,
             len,
             next: _,
-        } => field_at(part(s, start, len), 0),
-        Payload::Refused(n) => refused(n),
+        } => field_at(out, part(s, start, len), 0)?,
+        Payload::Refused(n) => refused(out, n)?,
     }
-    end_line();
+    end_line(out)
 }
 
 // The text's messages: field 1 is 150; field 2 is "testing"; field 3 holds the first message.
-fn messages() {
-    field(b"message of 150", b"\x08\x96\x01", 0);
-    field(b"message of 150, then", b"\x08\x96\x01", 3);
-    field(b"message of a string", b"\x12\x07testing", 0);
-    field(b"message of a string, then", b"\x12\x07testing", 9);
-    string(b"string", b"\x12\x07testing", 1);
-    field(b"message of a message", b"\x1A\x03\x08\x96\x01", 0);
-    inside(b"message inside", b"\x1A\x03\x08\x96\x01", 1);
+fn messages<W: Write>(out: &mut W) -> io::Result<()> {
+    field(out, b"message of 150", b"\x08\x96\x01", 0)?;
+    field(out, b"message of 150, then", b"\x08\x96\x01", 3)?;
+    field(out, b"message of a string", b"\x12\x07testing", 0)?;
+    field(out, b"message of a string, then", b"\x12\x07testing", 9)?;
+    string(out, b"string", b"\x12\x07testing", 1)?;
+    field(out, b"message of a message", b"\x1A\x03\x08\x96\x01", 0)?;
+    inside(out, b"message inside", b"\x1A\x03\x08\x96\x01", 1)?;
     field(
+        out,
         b"message of a packed field",
         b"\x32\x06\x03\x8E\x02\x9E\xA7\x05",
         0,
-    );
-    field(b"message of nothing", b"", 0);
+    )?;
+    field(out, b"message of nothing", b"", 0)
 }
 
 // A varint keeps its raw bytes, overlong ones too: they are a column of one value.
-fn raw_varints() {
-    raw_varint(b"raw varint 150", b"\x08\x96\x01", 1);
-    raw_varint(b"raw varint overlong", b"\x80\x80\x00", 0);
-    raw_varint(b"raw varint cut", b"\x96", 0);
+fn raw_varints<W: Write>(out: &mut W) -> io::Result<()> {
+    raw_varint(out, b"raw varint 150", b"\x08\x96\x01", 1)?;
+    raw_varint(out, b"raw varint overlong", b"\x80\x80\x00", 0)?;
+    raw_varint(out, b"raw varint cut", b"\x96", 0)?;
     raw_varint(
+        out,
         b"raw varint ten FF",
         b"\xFF\xFF\xFF\xFF\xFF\xFF\xFF\xFF\xFF\xFF",
         0,
-    );
-    raw_varint(b"raw varint behind the end", b"\x96\x01", 3);
+    )?;
+    raw_varint(out, b"raw varint behind the end", b"\x96\x01", 3)
 }
 
 // A length may count up to the end of the bytes and none more, however large it is.
-fn lengths() {
-    delimited(b"length 7", b"\x07testing", 0);
-    delimited(b"length 0", b"\x00", 0);
-    delimited(b"length overlong", b"\x82\x00hi", 0);
-    delimited(b"length one too long", b"\x07testin", 0);
+fn lengths<W: Write>(out: &mut W) -> io::Result<()> {
+    delimited(out, b"length 7", b"\x07testing", 0)?;
+    delimited(out, b"length 0", b"\x00", 0)?;
+    delimited(out, b"length overlong", b"\x82\x00hi", 0)?;
+    delimited(out, b"length one too long", b"\x07testin", 0)?;
     delimited(
+        out,
         b"length 2^64-1",
         b"\xFF\xFF\xFF\xFF\xFF\xFF\xFF\xFF\xFF\x01",
         0,
-    );
-    delimited(b"length cut", b"\x87", 0);
-    delimited(b"length missing", b"", 0);
+    )?;
+    delimited(out, b"length cut", b"\x87", 0)?;
+    delimited(out, b"length missing", b"", 0)?;
     delimited(
+        out,
         b"length ten FF",
         b"\xFF\xFF\xFF\xFF\xFF\xFF\xFF\xFF\xFF\xFF",
         0,
-    );
-    delimited(b"length behind the end", b"\x00", 2);
+    )?;
+    delimited(out, b"length behind the end", b"\x00", 2)
 }
 
 // The fixed sizes, each whole and one byte short; the types that have no payload; a place behind the end.
-fn types() {
-    field(b"fixed32", b"\x0D\x01\x02\x03\x04", 0);
-    field(b"fixed32 one byte short", b"\x0D\x01\x02\x03", 0);
-    field(b"fixed64", b"\x09\x01\x02\x03\x04\x05\x06\x07\x08", 0);
+fn types<W: Write>(out: &mut W) -> io::Result<()> {
+    field(out, b"fixed32", b"\x0D\x01\x02\x03\x04", 0)?;
+    field(out, b"fixed32 one byte short", b"\x0D\x01\x02\x03", 0)?;
+    field(out, b"fixed64", b"\x09\x01\x02\x03\x04\x05\x06\x07\x08", 0)?;
     field(
+        out,
         b"fixed64 one byte short",
         b"\x09\x01\x02\x03\x04\x05\x06\x07",
         0,
-    );
-    field(b"group", b"\x0B\x08\x96\x01\x0C", 0);
-    field(b"end of a group", b"\x0C", 0);
-    field(b"type 6", b"\x0E", 0);
-    field(b"type 7", b"\x0F", 0);
-    typed(b"payload of type 0 behind the end", b"", 1, 0);
-    typed(b"payload of type 3 behind the end", b"", 1, 3);
-    typed(b"payload of type 6 behind the end", b"", 1, 6);
+    )?;
+    field(out, b"group", b"\x0B\x08\x96\x01\x0C", 0)?;
+    field(out, b"end of a group", b"\x0C", 0)?;
+    field(out, b"type 6", b"\x0E", 0)?;
+    field(out, b"type 7", b"\x0F", 0)?;
+    typed(out, b"payload of type 0 behind the end", b"", 1, 0)?;
+    typed(out, b"payload of type 3 behind the end", b"", 1, 3)?;
+    typed(out, b"payload of type 6 behind the end", b"", 1, 6)
 }
 
-pub(crate) fn run() {
-    messages();
-    raw_varints();
-    lengths();
-    types();
+pub(crate) fn run<W: Write>(out: &mut W) -> io::Result<()> {
+    messages(out)?;
+    raw_varints(out)?;
+    lengths(out)?;
+    types(out)
 }
