@@ -1,5 +1,7 @@
 // A line of the list taken apart: the kind of question, its bytes, its numbers, and the answer's text.
-use crate::text::cut;
+use crate::text::{cut, print};
+use std::io;
+use std::io::Write;
 
 // The kinds of question that are asked, and how many there are.
 pub(crate) const VARINT: usize = 0;
@@ -105,7 +107,7 @@ fn kind_in(names: &[u8], name: &[u8]) -> usize {
     let mut kind = 0;
     while kind < KINDS {
         let to = find(names, from, b' ');
-        if check::same(cut(names, from, to), name) {
+        if cut(names, from, to) == name {
             return kind;
         }
         from = behind(to);
@@ -131,14 +133,14 @@ fn name_place(names: &[u8], kind: usize) -> usize {
     from
 }
 
-fn print_name_in(names: &[u8], kind: usize) {
+fn print_name_in<W: Write>(report: &mut W, names: &[u8], kind: usize) -> io::Result<()> {
     let from = name_place(names, kind);
-    crate::text::print(cut(names, from, find(names, from, b' ')));
+    print(report, cut(names, from, find(names, from, b' ')))
 }
 
-pub(crate) fn print_name(kind: usize) {
+pub(crate) fn print_name<W: Write>(report: &mut W, kind: usize) -> io::Result<()> {
     let all = names();
-    print_name_in(&all, kind);
+    print_name_in(report, &all, kind)
 }
 
 // How many numbers a question of a kind has.

@@ -1,6 +1,8 @@
 // Replays the fixed list of answers: each line's question is asked of the proved functions, and what they answer is compared, as text,
 // with the answer in the line. Prints the lines that differ, a line for each kind of question, document 01's examples that have no star,
 // and the totals.
+#![tactic(auto)]
+
 mod blocks;
 mod leaf;
 mod line;
@@ -8,7 +10,7 @@ mod messages;
 mod tally;
 mod text;
 
-ghost use Rattle.std.specs.Prelude.{◌≡◌, length};
+ghost use Rattle.std.specs.Prelude.{◌≡◌, ◌≤◌, length, IfOk};
 
 use blocks::{
     ask_check, ask_classify, ask_densepass, ask_get, ask_group, ask_messages, ask_scan, record_of,
@@ -20,6 +22,9 @@ use line::{
     digits_of, find, is_decoded, kind_of, numbers_of, plus, read_numbers,
 };
 use messages::{ask_dense, ask_dense_info, ask_info, ask_node, ask_relation, ask_way};
+use std::fs::File;
+use std::io;
+use std::io::{Read, Write};
 use tally::{
     COUNTS, DIFFERENT, GET_AT_COUNT, GET_NONE, GROUP_AT_COUNT, GROUP_REFUSED, LINES, NOT_ASKED,
     NOT_READ, count_agreed, count_asked, count_of, count_up, print_at_the_count, print_kinds,
@@ -143,20 +148,27 @@ fn ask(out: &mut [u8; ROOM], line: &[u8], kind: usize, n: Numbers, ahead: usize)
 }
 
 // A line that differs, whole, with what was answered: at most 20.
-fn print_different(counts: &mut [u64; COUNTS], line: &[u8], out: &[u8; ROOM], end: usize) {
+fn print_different<W: Write>(
+    report: &mut W,
+    counts: &mut [u64; COUNTS],
+    line: &[u8],
+    out: &[u8; ROOM],
+    end: usize,
+) -> io::Result<()> {
     if count_of(counts, LINES, DIFFERENT) < 20 {
-        print(b"different: ");
-        print(line);
-        print(b"\nanswered:");
-        print_said(out, end);
-        print(b"\n");
+        print(report, b"different: ")?;
+        print(report, line)?;
+        print(report, b"\nanswered:")?;
+        print_said(report, out, end)?;
+        print(report, b"\n")?;
     }
     count_up(counts, LINES, DIFFERENT);
+    Ok(())
 }
 
 // Whether a text was answered.
 fn is_said(out: &[u8; ROOM], end: usize, text: &[u8]) -> bool {
-    check::same(cut(out, 0, end), text)
+    cut(out, 0, end) == text
 }
 
 // Counts the questions on the string or the group whose number is the count, and those of them that are answered none or 14.
@@ -183,7 +195,13 @@ fn count_at_the_count(
 
 // Asks the question and compares the answer with the text behind the line's equals sign; then asks it again with other bytes before it,
 // where all places count from its own start.
-fn compare(counts: &mut [u64; COUNTS], line: &[u8], kind: usize, n: Numbers) {
+fn compare<W: Write>(
+    report: &mut W,
+    counts: &mut [u64; COUNTS],
+    line: &[u8],
+    kind: usize,
+    n: Numbers,
+) -> io::Result<()> {
     let mut out = [0u8; ROOM];
     let mut again = [0u8; ROOM];
     let text = cut(line, behind(n.next), line.len());
@@ -192,12 +210,13 @@ fn compare(counts: &mut [u64; COUNTS], line: &[u8], kind: usize, n: Numbers) {
     count_asked(counts, kind);
     count_at_the_count(counts, kind, n, is_said(&out, r.end, b" ~"), r.refusal);
     if !is_said(&out, r.end, text) {
-        print_different(counts, line, &out, r.end);
+        print_different(report, counts, line, &out, r.end)?;
     } else if !is_said(&again, s.end, text) {
-        print_different(counts, line, &again, s.end);
+        print_different(report, counts, line, &again, s.end)?;
     } else {
         count_agreed(counts, kind, r.refusal);
     }
+    Ok(())
 }
 
 // Whether a question has bytes, the numbers of its kind, and then an equals sign.
@@ -212,40 +231,42 @@ fn is_question(line: &[u8], kind: usize, n: Numbers) -> bool {
 }
 
 // One line of the list.
-fn take_line(counts: &mut [u64; COUNTS], line: &[u8]) {
+fn take_line<W: Write>(report: &mut W, counts: &mut [u64; COUNTS], line: &[u8]) -> io::Result<()> {
     if byte_at(line, 0) == b'#' {
-        return;
+        return Ok(());
     }
     let kind = kind_of(line);
     if kind == KINDS {
         count_up(counts, LINES, NOT_ASKED);
-        return;
+        return Ok(());
     }
     let n = read_numbers(line);
     if is_question(line, kind, n) {
-        compare(counts, line, kind, n);
+        compare(report, counts, line, kind, n)?;
     } else {
         count_up(counts, LINES, NOT_READ);
     }
+    Ok(())
 }
 
 // All lines of the list. It has fewer than the turns that are counted.
-fn take_lines(counts: &mut [u64; COUNTS], list: &[u8]) {
+fn take_lines<W: Write>(report: &mut W, counts: &mut [u64; COUNTS], list: &[u8]) -> io::Result<()> {
     let mut from = 0;
     let mut turns = 0;
     while turns < LIST {
         if list.len() <= from {
-            return;
+            return Ok(());
         }
         let to = find(list, from, b'\n');
-        take_line(counts, cut(list, from, to));
+        take_line(report, counts, cut(list, from, to))?;
         from = behind(to);
         turns += 1;
     }
+    Ok(())
 }
 
 // A question by hand: prints it with what is answered.
-fn show(question: &[u8]) {
+fn show<W: Write>(report: &mut W, question: &[u8]) -> io::Result<()> {
     let mut out = [0u8; ROOM];
     let r = ask(
         &mut out,
@@ -254,47 +275,64 @@ fn show(question: &[u8]) {
         read_numbers(question),
         0,
     );
-    print(question);
-    print(b" =");
-    print_said(&out, r.end);
-    print(b"\n");
+    print(report, question)?;
+    print(report, b" =")?;
+    print_said(report, &out, r.end)?;
+    print(report, b"\n")
 }
 
 // Document 01's examples that have no star. The last question has an entry's bytes behind the table, so that the count alone refuses it.
-fn show_examples() {
+fn show_examples<W: Write>(report: &mut W) -> io::Result<()> {
     print(
+        report,
         b"ten ff at a varint, get at the count, group at the count at the end of the buffer and before it:\n",
-    );
-    show(b"varint r xffffffffffffffffffff 0");
-    show(b"get p x0a050a000a01611200040000000000000006000000010000000900000000000000 9 2 2");
+    )?;
+    show(report, b"varint r xffffffffffffffffffff 0")?;
     show(
+        report,
+        b"get p x0a050a000a01611200040000000000000006000000010000000900000000000000 9 2 2",
+    )?;
+    show(
+        report,
         b"group r x0a050a000a01611200040000000000000006000000010000000900000000000000 9 9 2 25 1 1",
-    );
+    )?;
     show(
+        report,
         b"group r x0a050a000a016112000400000000000000060000000100000009000000000000000900000000000000 9 9 2 25 1 1",
-    );
+    )
 }
 
-fn replay(list: &[u8]) {
+fn replay<W: Write>(report: &mut W, list: &[u8]) -> io::Result<()> {
     let mut counts = [0u64; COUNTS];
-    take_lines(&mut counts, list);
-    print_kinds(&counts);
-    show_examples();
-    print_at_the_count(&counts);
-    print_totals(&counts);
+    take_lines(report, &mut counts, list)?;
+    print_kinds(report, &counts)?;
+    show_examples(report)?;
+    print_at_the_count(report, &counts)?;
+    print_totals(report, &counts)
 }
 
-fn main() {
+// Fills a buffer from a file's start, as far as the file goes, and says how many bytes were read.
+fn read_full<R: Read>(file: &mut R, buf: &mut [u8]) -> io::Result<usize>
+    ensures { IfOk result (λ n. n ≤ length buf.new) }
+{
+    let mut n = 0;
+    while n < buf.len() {
+        let more = file.read(&mut buf[n..])?;
+        if more == 0 {
+            return Ok(n);
+        }
+        n += more;
+    }
+    Ok(n)
+}
+
+fn main(rt: HostRuntime) -> io::Result<()> {
+    let mut report = io::writer(&rt);
     let mut buf = list_buffer();
-    let fd = os::open_read(b"answers.txt");
-    if fd < 0 {
-        os::fail(b"answers.txt");
-        return;
-    }
-    let n = io::read_full(fd, &mut buf);
-    libc::close(fd);
+    let mut file = File::open(&rt, "answers.txt")?;
+    let n = read_full(&mut file, &mut buf)?;
     if n == LIST {
-        print(b"the list may be longer than what was read\n");
+        print(&mut report, b"the list may be longer than what was read\n")?;
     }
-    replay(&buf[..n]);
+    replay(&mut report, &buf[..n])
 }

@@ -3,6 +3,8 @@
 // and for the questions at the count.
 use crate::line::{KINDS, print_name};
 use crate::text::{print, print_number};
+use std::io;
+use std::io::Write;
 
 pub(crate) const COUNTS: usize = 288;
 
@@ -79,66 +81,71 @@ pub(crate) fn count_agreed(counts: &mut [u64; COUNTS], kind: usize, refusal: u32
 }
 
 // How many were refused with a number, unless none were.
-fn print_refused(number: usize, n: u64) {
+fn print_refused<W: Write>(report: &mut W, number: usize, n: u64) -> io::Result<()> {
     if n == 0 {
-        return;
+        return Ok(());
     }
-    print(b", ");
-    print_number(n);
-    print(b" refused with ");
-    print_number(number as u64);
+    print(report, b", ")?;
+    print_number(report, n)?;
+    print(report, b" refused with ")?;
+    print_number(report, number as u64)
 }
 
 // The agreed ones of a kind that were refused, by their number.
-fn print_refusals(counts: &[u64; COUNTS], kind: usize) {
+fn print_refusals<W: Write>(report: &mut W, counts: &[u64; COUNTS], kind: usize) -> io::Result<()> {
     let mut number = 1;
     while number < 15 {
-        print_refused(number, count_of(counts, kind, number));
+        print_refused(report, number, count_of(counts, kind, number))?;
         number += 1;
     }
+    Ok(())
 }
 
 // The line of a kind.
-fn print_kind(counts: &[u64; COUNTS], kind: usize) {
-    print_name(kind);
-    print(b": ");
-    print_number(count_of(counts, kind, ASKED));
-    print(b" asked, ");
-    print_number(count_of(counts, kind, AGREED));
-    print(b" agreed");
-    print_refusals(counts, kind);
-    print(b"\n");
+fn print_kind<W: Write>(report: &mut W, counts: &[u64; COUNTS], kind: usize) -> io::Result<()> {
+    print_name(report, kind)?;
+    print(report, b": ")?;
+    print_number(report, count_of(counts, kind, ASKED))?;
+    print(report, b" asked, ")?;
+    print_number(report, count_of(counts, kind, AGREED))?;
+    print(report, b" agreed")?;
+    print_refusals(report, counts, kind)?;
+    print(report, b"\n")
 }
 
 // A line for each kind.
-pub(crate) fn print_kinds(counts: &[u64; COUNTS]) {
+pub(crate) fn print_kinds<W: Write>(report: &mut W, counts: &[u64; COUNTS]) -> io::Result<()> {
     let mut kind = 0;
     while kind < KINDS {
-        print_kind(counts, kind);
+        print_kind(report, counts, kind)?;
         kind += 1;
     }
+    Ok(())
 }
 
 // What get and group answered where the number is the count.
-pub(crate) fn print_at_the_count(counts: &[u64; COUNTS]) {
-    print(b"get at the count: ");
-    print_number(count_of(counts, LINES, GET_AT_COUNT));
-    print(b" asked, ");
-    print_number(count_of(counts, LINES, GET_NONE));
-    print(b" answered none\ngroup at the count: ");
-    print_number(count_of(counts, LINES, GROUP_AT_COUNT));
-    print(b" asked, ");
-    print_number(count_of(counts, LINES, GROUP_REFUSED));
-    print(b" refused with 14\n");
+pub(crate) fn print_at_the_count<W: Write>(
+    report: &mut W,
+    counts: &[u64; COUNTS],
+) -> io::Result<()> {
+    print(report, b"get at the count: ")?;
+    print_number(report, count_of(counts, LINES, GET_AT_COUNT))?;
+    print(report, b" asked, ")?;
+    print_number(report, count_of(counts, LINES, GET_NONE))?;
+    print(report, b" answered none\ngroup at the count: ")?;
+    print_number(report, count_of(counts, LINES, GROUP_AT_COUNT))?;
+    print(report, b" asked, ")?;
+    print_number(report, count_of(counts, LINES, GROUP_REFUSED))?;
+    print(report, b" refused with 14\n")
 }
 
 // The totals.
-pub(crate) fn print_totals(counts: &[u64; COUNTS]) {
-    print_kind(counts, ALL);
-    print_number(count_of(counts, LINES, DIFFERENT));
-    print(b" different, ");
-    print_number(count_of(counts, LINES, NOT_READ));
-    print(b" not read, ");
-    print_number(count_of(counts, LINES, NOT_ASKED));
-    print(b" of other kinds not asked\n");
+pub(crate) fn print_totals<W: Write>(report: &mut W, counts: &[u64; COUNTS]) -> io::Result<()> {
+    print_kind(report, counts, ALL)?;
+    print_number(report, count_of(counts, LINES, DIFFERENT))?;
+    print(report, b" different, ")?;
+    print_number(report, count_of(counts, LINES, NOT_READ))?;
+    print(report, b" not read, ")?;
+    print_number(report, count_of(counts, LINES, NOT_ASKED))?;
+    print(report, b" of other kinds not asked\n")
 }

@@ -1,10 +1,11 @@
 // Text of an answer: words are put behind each other into an array, each with a space before it. What does not fit is not put, and then
 // the text differs from every line of the list.
 use fields::part::Part;
-use libc::STDOUT_FILENO;
+use itoa::Buffer;
 use numbers::signed::bits_i64;
 use protobuf::refusal::{Refusal, number};
-use std::num::{wrapping_sub_u64, wrapping_sub_usize};
+use std::io;
+use std::io::Write;
 
 // The most bytes of an answer's text.
 pub(crate) const ROOM: usize = 2048;
@@ -31,17 +32,17 @@ pub(crate) fn cut(s: &[u8], from: usize, to: usize) -> &[u8] {
     &s[from..to]
 }
 
-pub(crate) fn print(s: &[u8]) {
-    io::write_all(STDOUT_FILENO, s);
+pub(crate) fn print<W: Write>(report: &mut W, s: &[u8]) -> io::Result<()> {
+    report.write_all(s)
 }
 
-pub(crate) fn print_number(n: u64) {
-    io::print_decimal(STDOUT_FILENO, n);
+pub(crate) fn print_number<W: Write>(report: &mut W, n: u64) -> io::Result<()> {
+    write!(report, "{n}")
 }
 
 // What has been put so far.
-pub(crate) fn print_said(out: &[u8; ROOM], end: usize) {
-    print(cut(out, 0, end));
+pub(crate) fn print_said<W: Write>(report: &mut W, out: &[u8; ROOM], end: usize) -> io::Result<()> {
+    print(report, cut(out, 0, end))
 }
 
 // One byte, and the place behind it.
@@ -66,9 +67,8 @@ pub(crate) fn put_text(out: &mut [u8; ROOM], at: usize, s: &[u8]) -> usize {
 }
 
 fn put_digits(out: &mut [u8; ROOM], at: usize, n: u64) -> usize {
-    let mut digits = [0u8; 20];
-    let k = io::decimal(n, &mut digits);
-    put_text(out, at, &digits[..k])
+    let mut digits = Buffer::new();
+    put_text(out, at, digits.format(n).as_bytes())
 }
 
 // A word of one byte, as `.`, `!` and `~`.
@@ -92,7 +92,7 @@ pub(crate) fn put_signed(out: &mut [u8; ROOM], at: usize, x: i64) -> usize {
     let bits = bits_i64(x);
     if x < 0 {
         let minus = put_sign(out, at, b'-');
-        put_digits(out, minus, wrapping_sub_u64(0, bits))
+        put_digits(out, minus, bits.wrapping_neg())
     } else {
         put_number(out, at, bits)
     }
@@ -118,7 +118,7 @@ pub(crate) fn put_bool(out: &mut [u8; ROOM], at: usize, x: bool) -> usize {
 // Where a part starts, counted from the place of its message.
 pub(crate) fn start_of(part: Part, base: usize) -> usize {
     if part.present {
-        wrapping_sub_usize(part.start, base)
+        part.start.wrapping_sub(base)
     } else {
         part.start
     }

@@ -1,5 +1,5 @@
 -- `decode` is safe and ends. Nothing has to hold from turn to turn; the measure is the room that is left. Assumes nothing.
-use Rattle.std.proofs.Common.{◌-◌, rules}
+use Rattle.std.proofs.Common.{◌-◌}
 use Rattle.replay.proofs.line.decode.Given as goal
 
 abbrev pub invariant-loop-n : goal.invariant-loop-n

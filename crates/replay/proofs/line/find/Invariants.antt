@@ -1,5 +1,5 @@
 -- `find` is safe and ends. Nothing has to hold from turn to turn; the measure is what is left of the bytes. Assumes nothing.
-use Rattle.std.proofs.Common.{◌-◌, length, rules}
+use Rattle.std.proofs.Common.{◌-◌, length}
 use Rattle.replay.proofs.line.find.Given as goal
 
 abbrev pub invariant-loop-at : goal.invariant-loop-at

@@ -1,5 +1,5 @@
 -- `kind_in` is safe and ends. Nothing has to hold from turn to turn; the measure is the kinds that are left. Assumes nothing.
-use Rattle.std.proofs.Common.{◌-◌, rules}
+use Rattle.std.proofs.Common.{◌-◌}
 use Rattle.replay.proofs.line.kind_in.Given as goal
 
 abbrev pub invariant-loop-kind : goal.invariant-loop-kind

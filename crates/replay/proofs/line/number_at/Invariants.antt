@@ -1,5 +1,5 @@
 -- `number_at` is safe and ends. Nothing has to hold from turn to turn; the measure is what is left of the line. Assumes nothing.
-use Rattle.std.proofs.Common.{◌-◌, length, rules}
+use Rattle.std.proofs.Common.{◌-◌, length}
 use Rattle.replay.proofs.line.number_at.Given as goal
 
 abbrev pub invariant-loop-at : goal.invariant-loop-at

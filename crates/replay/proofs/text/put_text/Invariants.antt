@@ -1,5 +1,5 @@
 -- `put_text` is safe and ends. Nothing has to hold from turn to turn; the measure is what is left of the bytes. Assumes nothing.
-use Rattle.std.proofs.Common.{◌-◌, length, rules}
+use Rattle.std.proofs.Common.{◌-◌, length}
 use Rattle.replay.proofs.text.put_text.Given as goal
 
 abbrev pub invariant-loop-i : goal.invariant-loop-i
