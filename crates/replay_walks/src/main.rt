@@ -1,6 +1,8 @@
 // Replays the list of walks: each line's block is scanned and walked by the proved functions, and what they hand out is compared, word by
 // word, with the answer in the line. Every block is walked twice: by `step` and `next` in turn with tags by their texts, and by `next` and
 // `step` in turn with tags by their numbers. Prints the lines that differ, a line for each kind of walk, and the totals.
+#![tactic(auto)]
+
 mod element;
 mod items;
 mod line;
@@ -8,11 +10,14 @@ mod steps;
 mod tally;
 mod words;
 
-use bytes::scan::find;
+ghost use Rattle.std.specs.Prelude.{◌≤◌, length};
+
 use fields::part::{Part, bytes_of};
 use line::{BYTES, Kind, decode, digits_on, kind_of, rest};
+use memchr::memchr;
 use protobuf::refusal::Refusal;
-use std::num::wrapping_add_usize;
+use std::io::Write;
+use std::{fs, io};
 use steps::{How, Passed, pass_walk};
 use tally::{Counts, Outcome, Tally, counted, more, nothing, print, print_tally};
 use wire::record::WireBlock;
@@ -61,7 +66,7 @@ fn block_and_tables(buffer: &[u8], block: WireBlock) -> &[u8] {
     if BYTES < block.groups {
         return &buffer[0..0];
     }
-    let len = wrapping_add_usize(block.grouptable, 8 * block.groups);
+    let len = block.grouptable.wrapping_add(8 * block.groups);
     bytes_of(
         buffer,
         Part {
@@ -101,66 +106,70 @@ fn ask(line: &[u8], full: bool) -> Outcome {
 }
 
 // A line that differs or cannot be read is printed whole.
-fn show(label: &[u8], line: &[u8]) {
-    print(label);
-    print(line);
-    print(b"\n");
+fn show<W: Write>(report: &mut W, label: &[u8], line: &[u8]) -> io::Result<()> {
+    print(report, label)?;
+    print(report, line)?;
+    print(report, b"\n")
 }
 
 // Asks a line's question and counts how it came out.
-fn take_walk(c: Counts, line: &[u8], full: bool) -> Counts {
+fn take_walk<W: Write>(report: &mut W, c: Counts, line: &[u8], full: bool) -> io::Result<Counts> {
     let outcome = ask(line, full);
     match outcome {
         Outcome::Ended => {}
         Outcome::Stopped => {}
-        Outcome::Different => show(b"different: ", line),
-        Outcome::NotRead => show(b"not read: ", line),
+        Outcome::Different => show(report, b"different: ", line)?,
+        Outcome::NotRead => show(report, b"not read: ", line)?,
     }
-    counted(c, outcome)
+    Ok(counted(c, outcome))
 }
 
 // One line of the list.
-fn take_line(t: Tally, line: &[u8]) -> Tally {
+fn take_line<W: Write>(report: &mut W, t: Tally, line: &[u8]) -> io::Result<Tally> {
     let mut next = t;
     let kind = kind_of(line);
     match kind {
         Kind::Comment => {}
         Kind::Plain => {
-            let c = take_walk(t.plain, line, false);
+            let c = take_walk(report, t.plain, line, false)?;
             next.plain = c;
         }
         Kind::Full => {
-            let c = take_walk(t.full, line, true);
+            let c = take_walk(report, t.full, line, true)?;
             next.full = c;
         }
         Kind::Other => next.other = more(t.other),
     }
-    next
+    Ok(next)
+}
+
+// The place of the first such byte from a place on, or the end.
+fn find(s: &[u8], from: usize, byte: u8) -> usize
+    requires { from ≤ length s.now }
+    ensures start { from ≤ result }
+    ensures end { result ≤ length s.now }
+{
+    match memchr(byte, &s[from..]) {
+        Some(n) => from + n,
+        None => s.len(),
+    }
 }
 
 // All lines of the list.
-fn take_lines(list: &[u8]) -> Tally {
+fn take_lines<W: Write>(report: &mut W, list: &[u8]) -> io::Result<Tally> {
     let mut t = nothing();
     let mut from = 0;
     while from < list.len() {
-        let to = find(list, from, list.len(), b'\n');
-        t = take_line(t, &list[from..to]);
+        let to = find(list, from, b'\n');
+        t = take_line(report, t, &list[from..to])?;
         from = to + 1;
     }
-    t
+    Ok(t)
 }
 
-fn main() {
-    let mut buf = io::large_buffer();
-    let fd = os::open_read(b"walks.txt");
-    if fd < 0 {
-        os::fail(b"walks.txt");
-        return;
-    }
-    let n = io::read_full(fd, &mut buf);
-    libc::close(fd);
-    if n == buf.len() {
-        print(b"the list may be longer than what was read\n");
-    }
-    print_tally(take_lines(&buf[..n]));
+fn main(rt: HostRuntime) -> io::Result<()> {
+    let mut report = io::writer(&rt);
+    let list = fs::read(&rt, "walks.txt")?;
+    let t = take_lines(&mut report, &list)?;
+    print_tally(&mut report, t)
 }

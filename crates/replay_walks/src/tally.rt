@@ -1,6 +1,6 @@
 // How the lines came out, by the kind of walk.
-use libc::STDOUT_FILENO;
-use std::num::wrapping_add_u64;
+use std::io;
+use std::io::Write;
 
 // How a line came out.
 #[derive(Clone, Copy)]
@@ -48,7 +48,7 @@ pub(crate) fn nothing() -> Tally {
 
 // One more. A list has fewer lines than 2^64.
 pub(crate) fn more(n: u64) -> u64 {
-    wrapping_add_u64(n, 1)
+    n.wrapping_add(1)
 }
 
 // A line more of a kind.
@@ -65,40 +65,40 @@ pub(crate) fn counted(c: Counts, outcome: Outcome) -> Counts {
 
 fn sum(a: Counts, b: Counts) -> Counts {
     Counts {
-        ended: wrapping_add_u64(a.ended, b.ended),
-        stopped: wrapping_add_u64(a.stopped, b.stopped),
-        different: wrapping_add_u64(a.different, b.different),
-        unread: wrapping_add_u64(a.unread, b.unread),
+        ended: a.ended.wrapping_add(b.ended),
+        stopped: a.stopped.wrapping_add(b.stopped),
+        different: a.different.wrapping_add(b.different),
+        unread: a.unread.wrapping_add(b.unread),
     }
 }
 
-pub(crate) fn print(s: &[u8]) {
-    io::write_all(STDOUT_FILENO, s);
+pub(crate) fn print<W: Write>(report: &mut W, s: &[u8]) -> io::Result<()> {
+    report.write_all(s)
 }
 
 // A number with what it counts.
-fn print_count(n: u64, what: &[u8]) {
-    io::print_decimal(STDOUT_FILENO, n);
-    print(what);
+fn print_count<W: Write>(report: &mut W, n: u64, what: &[u8]) -> io::Result<()> {
+    write!(report, "{n}")?;
+    print(report, what)
 }
 
 // The line of a kind: how many walks were made over its blocks, how many of them gave the answer's text, and how many of those ended with a
 // refusal.
-fn print_counts(name: &[u8], c: Counts) {
-    let agreed = wrapping_add_u64(c.ended, c.stopped);
-    print(name);
-    print_count(wrapping_add_u64(agreed, c.different), b" asked, ");
-    print_count(agreed, b" agreed, ");
-    print_count(c.stopped, b" refused\n");
+fn print_counts<W: Write>(report: &mut W, name: &[u8], c: Counts) -> io::Result<()> {
+    let agreed = c.ended.wrapping_add(c.stopped);
+    print(report, name)?;
+    print_count(report, agreed.wrapping_add(c.different), b" asked, ")?;
+    print_count(report, agreed, b" agreed, ")?;
+    print_count(report, c.stopped, b" refused\n")
 }
 
 // A line for each kind of walk, and the totals.
-pub(crate) fn print_tally(t: Tally) {
+pub(crate) fn print_tally<W: Write>(report: &mut W, t: Tally) -> io::Result<()> {
     let all = sum(t.plain, t.full);
-    print_counts(b"plain: ", t.plain);
-    print_counts(b"full: ", t.full);
-    print_counts(b"all: ", all);
-    print_count(all.different, b" different, ");
-    print_count(all.unread, b" not read, ");
-    print_count(t.other, b" of other kinds not asked\n");
+    print_counts(report, b"plain: ", t.plain)?;
+    print_counts(report, b"full: ", t.full)?;
+    print_counts(report, b"all: ", all)?;
+    print_count(report, all.different, b" different, ")?;
+    print_count(report, all.unread, b" not read, ")?;
+    print_count(report, t.other, b" of other kinds not asked\n")
 }

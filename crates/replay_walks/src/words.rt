@@ -2,9 +2,9 @@
 // where the text goes on with that word. Each word has a space before it. Where the text goes on with anything else the place is NOWHERE,
 // and stays so, whatever comes.
 use fields::part::Part;
+use itoa::Buffer;
 use numbers::signed::bits_i64;
 use protobuf::refusal::{Refusal, number};
-use std::num::wrapping_sub_u64;
 
 pub(crate) const NOWHERE: usize = 0xFFFF_FFFF_FFFF_FFFF;
 
@@ -32,9 +32,8 @@ pub(crate) fn pass_sign(text: &[u8], at: usize, sign: u8) -> usize {
 }
 
 fn pass_digits(text: &[u8], at: usize, n: u64) -> usize {
-    let mut digits = [0u8; 20];
-    let k = io::decimal(n, &mut digits);
-    pass_text(text, at, &digits[..k])
+    let mut digits = Buffer::new();
+    pass_text(text, at, digits.format(n).as_bytes())
 }
 
 // A number without a sign.
@@ -50,7 +49,7 @@ pub(crate) fn pass_size(text: &[u8], at: usize, n: usize) -> usize {
 pub(crate) fn pass_signed(text: &[u8], at: usize, x: i64) -> usize {
     let bits = bits_i64(x);
     if x < 0 {
-        pass_digits(text, pass_sign(text, at, b'-'), wrapping_sub_u64(0, bits))
+        pass_digits(text, pass_sign(text, at, b'-'), bits.wrapping_neg())
     } else {
         pass_number(text, at, bits)
     }
