@@ -1,7 +1,7 @@
--- The laws that proofs here and in the crates above cite.
-pub mod laws
--- What the definitions say of concrete values.
+-- What the definitions say of concrete values: first, so that a check that refuses one says so first.
 pub mod Worked
 pub mod Refused
 pub mod Stamped
 pub mod Unusual
+-- The laws that proofs here and in the crates above cite.
+pub mod laws

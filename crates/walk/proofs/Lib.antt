@@ -1,5 +1,5 @@
+-- What the definitions say of concrete values: first, so that a check that refuses one says so first.
+pub mod Worked
 -- The laws that proofs here and in the crates above cite: of the steps, and of whole runs.
 pub mod laws
 pub mod claim
--- What the definitions say of concrete values.
-pub mod Worked

@@ -1,4 +1,4 @@
+-- What the definitions say of concrete values: first, so that a check that refuses one says so first.
+pub mod Worked
 -- The laws that proofs here and in the crates above cite.
 pub mod laws
--- What the definitions say of concrete values.
-pub mod Worked
