@@ -1,7 +1,7 @@
-//! Links the proved library, the archive that `rt staticlib nuorpyts` writes
-//! at the repository's root or the one in the folder `NUORPYTS_LIB`, which is
-//! never kept in this repository; and writes the Rust of what the C header
-//! declares, so that no number and no type of the header stands here too.
+//! Links the proved library, the archive that `rt lib` writes to `out` in
+//! crates/nuorpyts or the one in the folder `NUORPYTS_LIB`, which is never
+//! kept in this repository; and writes the Rust of what the C header declares,
+//! so that no number and no type of the header stands here too.
 
 mod header;
 mod rust;
@@ -22,7 +22,7 @@ fn link() {
     println!("cargo::rerun-if-env-changed=NUORPYTS_LIB");
     let folder = match env::var_os("NUORPYTS_LIB") {
         Some(folder) => PathBuf::from(folder),
-        None => root().join("target/staticlib"),
+        None => root().join("crates/nuorpyts/out"),
     };
     let archive = folder.join("libnuorpyts.a");
     println!("cargo::rerun-if-changed={}", archive.display());
@@ -32,7 +32,7 @@ fn link() {
         println!("cargo::rustc-env=NUORPYTS_ARCHIVE={}", archive.display());
     } else {
         println!(
-            "cargo::error=the proved library is missing: make it by `rt staticlib nuorpyts` at the \
+            "cargo::error=the proved library is missing: make it by include/test/library at the \
              repository's root, or name the folder of libnuorpyts.a in NUORPYTS_LIB"
         );
     }
