@@ -1,2 +1,4 @@
 // Calls through C over a relation's members.
+#![tactic(auto)]
+
 pub mod members;

@@ -1,5 +1,7 @@
 // The functions that C calls. Numbers pass as themselves and byte slices as a pointer and a length; records, answers and states stand in
 // slices that the caller lends, as the crate `answers` lays them out (include/nuorpyts.h).
+#![tactic(auto)]
+
 pub mod blocks;
 pub mod check;
 pub mod group;

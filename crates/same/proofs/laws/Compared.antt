@@ -1,9 +1,7 @@
 -- One comparison, and where it finds no difference another.
 use mathlib.Core.Path.{◌≡◌, refl, sym, ap, ◌∙◌}
-use mathlib.Core.List.{[], ◌∷◌}
-use mathlib.Core.Logic.{⊎_elim}
+use mathlib.Core.List.{[]}
 use mathlib.Core.Bool.{Bool, true, false, not}
-use native.Mathlib.Omega.{arith}
 use Rattle.protobuf.proofs.laws.Read.{says}
 use Rattle.fields.specs.Outcome.{Outcome, kept}
 use Rattle.fields.proofs.laws.Part.{refuted, confirmed}
@@ -11,7 +9,6 @@ use Rattle.walk.specs.Same.{and_same}
 use Rattle.same.specs.declared.compared.Compared.{Compared}
 use Rattle.same.specs.declared.compared.Compared.TheVariants as compared
 use Rattle.same.specs.Compared.{compared_of}
-use Rattle.same.specs.contracts.compared.Compared.{the_type}
 
 pub goes_on : {x : Compared} {o others answer : Outcome Bool} → compared_of x ≡ o → x ≡ compared.Same → answer ≡ others → answer ≡ and_same o others
 goes_on {others = others} e same g = g ∙ ap (λ (o : Outcome Bool). and_same o others) (sym (says compared_of e same))

@@ -2,8 +2,7 @@
 -- its record is inside.
 use Prim.Native.Nat.{ℕ}
 use mathlib.Core.Path.{◌≡◌, refl, sym}
-use mathlib.Core.List.{List, [], ◌∷◌}
-use mathlib.Core.Logic.{⊎_elim}
+use mathlib.Core.List.{List, []}
 use mathlib.Core.Bool.{Bool, true, false}
 use native.Mathlib.Omega.{arith}
 use Rattle.protobuf.specs.declared.refusal.Refusal.TheVariants.{Outside}
@@ -23,14 +22,12 @@ use Rattle.walk.specs.declared.block_elements.Said.TheVariants as said
 use Rattle.walk.specs.State.{state_inside}
 use Rattle.walk.specs.Walk.{Found, elements_by, tested_from, elements_from, element_said}
 use Rattle.walk.specs.Same.{and_same, same_stream}
-use Rattle.walk.specs.contracts.block_elements.Said as Said-type
 use Rattle.same.specs.declared.compared.Compared.{Compared}
 use Rattle.same.specs.declared.compared.Compared.TheVariants as compared
 use Rattle.same.specs.Compared.{compared_of}
 use Rattle.same.specs.Heads.{found_by}
 use Rattle.same.specs.Walks.{said_then, element_turn, same_said, SaidInside}
 use Rattle.same.proofs.laws.Turns.{Says, hands, is-over, is_cut, Silent, at-end, at-number}
-use Rattle.same.specs.contracts.compared.Compared.{the_type}
 
 -- ---- a step
 

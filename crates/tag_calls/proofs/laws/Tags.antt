@@ -2,9 +2,8 @@
 use Prim.Native.Nat.{ℕ, ◌^◌, ◌≤◌, ◌<◌}
 use native.Mathlib.Omega.{arith}
 use mathlib.Core.Path.{◌≡◌, refl, sym, ◌∙◌}
-use mathlib.Core.List.{List, [], ◌∷◌}
+use mathlib.Core.List.{List, []}
 use mathlib.Core.Bool.{false}
-use mathlib.Core.Logic.{⊎_elim}
 use lib.ListN.{length}
 use lib.Dec.{lit<}
 use borrow.Author.Tests.{eq-eqb, ne_eqb}
@@ -14,7 +13,6 @@ use Rattle.columns.specs.declared.zip.TagColumns.{TagColumns}
 use Rattle.columns.specs.InStep.{nowhere}
 use Rattle.elements.specs.declared.tags.TagIter.{TagIter}
 use Rattle.elements.specs.declared.tags.TagIter.TheVariants as iter
-use Rattle.elements.specs.contracts.tags.TagIter.{the_type}
 use Rattle.answers.specs.Words.{filled}
 use Rattle.calls.specs.Slots.{column_at}
 use Rattle.tag_calls.specs.Tags.{tag_words, tags_at, tags_over}

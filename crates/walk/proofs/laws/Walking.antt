@@ -2,9 +2,8 @@
 -- something, or comes to plain dense nodes, where the walk makes its step. Before that comes 14.
 use Prim.Native.Nat.{ℕ, ◌<◌}
 use mathlib.Core.Path.{◌≡◌, refl, sym, ap, ◌∙◌, subst}
-use mathlib.Core.List.{List, [], ◌∷◌}
+use mathlib.Core.List.{List, []}
 use mathlib.Core.Bool.{Bool, true, false}
-use mathlib.Core.Logic.{⊎_elim}
 use native.Mathlib.Omega.{arith}
 use lib.Dec.{ltb}
 use borrow.Author.Tests.{ltb-true}
@@ -29,7 +28,6 @@ use Rattle.walk.specs.declared.block_elements.ElementStep.{ElementStep}
 use Rattle.kinds.specs.declared.state.Loose.TheVariants as kind
 use Rattle.walk.specs.declared.state.BlockElementsIter.TheVariants as walk
 use Rattle.kinds.specs.declared.dense_nodes.DenseStep.TheVariants as dense
-use Rattle.walk.specs.contracts.state.BlockElementsIter.{the_type}
 use Rattle.kinds.proofs.laws.Inside.{both_hold}
 use Rattle.walk.proofs.laws.Inside.{nodes-before, dense-group, dense-next}
 use Rattle.walk.proofs.laws.Ahead.{group-cut, group-ended, group-more}

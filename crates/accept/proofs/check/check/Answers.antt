@@ -1,5 +1,4 @@
 -- `check` tests the record, then each range of its groups, and then reads the groups.
-use borrow.Author.Rules.{rules}
 use mathlib.Core.Path.{sym, ◌∙◌}
 use Rattle.protobuf.proofs.laws.Read.{says}
 use Rattle.passes.specs.Checked.{check_of}

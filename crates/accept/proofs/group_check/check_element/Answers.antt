@@ -1,5 +1,4 @@
 -- `check_element` chooses by the tag.
-use borrow.Author.Rules.{rules}
 use mathlib.Core.Path.{sym, ◌∙◌}
 use Rattle.accept.proofs.laws.Group.{element-is, no-element}
 use Rattle.accept.proofs.group_check.check_element.Goals as goal

@@ -1,5 +1,4 @@
 -- `check_found` reads the dense message where one was found.
-use borrow.Author.Rules.{rules}
 use mathlib.Core.Path.{sym, ap, ◌∙◌}
 use Rattle.block.specs.Check.{check_dense}
 use Rattle.accept.proofs.laws.Group.{one-dense, no-dense}

@@ -1,5 +1,4 @@
 -- `check_group` reads the dense message that the pass found, and then the others.
-use borrow.Author.Rules.{rules}
 use mathlib.Core.Path.{sym, ◌∙◌}
 use Rattle.protobuf.proofs.laws.Read.{says}
 use Rattle.passes.specs.Checked.{check_of}

@@ -1,5 +1,4 @@
 -- `check_loose` reads nodes, ways and relations one after the other.
-use borrow.Author.Rules.{rules}
 use mathlib.Core.Path.{sym, ◌∙◌}
 use Rattle.protobuf.proofs.laws.Read.{says}
 use Rattle.passes.specs.Checked.{check_of}

@@ -1,5 +1,4 @@
 -- `iter_numbers` gives `iterWords`, by the state's case.
-use borrow.Author.Rules.{rules}
 use mathlib.Core.Path.{sym, ap}
 use Rattle.answers.specs.Group.{iter_words}
 use Rattle.answers.proofs.group.iter_numbers.Goals as goal

@@ -1,5 +1,4 @@
 -- `messages_in` makes the tests of `messagesIn` in its order, and reads the place where all of them hold.
-use borrow.Author.Rules.{rules}
 use mathlib.Core.Path.{ap, ◌∙◌}
 use native.Mathlib.Omega.{arith}
 use Rattle.answers.proofs.laws.Group.{state_short, state_ended, no-phase, no_field, state_at_lem}

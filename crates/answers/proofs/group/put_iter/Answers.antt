@@ -1,5 +1,4 @@
 -- `put_iter` puts the numbers of the state.
-use borrow.Author.Rules.{rules}
 use mathlib.Core.Path.{ap, ◌∙◌}
 use Rattle.answers.specs.Words.{filled}
 use Rattle.answers.proofs.group.put_iter.Goals as goal

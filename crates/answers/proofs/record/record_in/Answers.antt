@@ -1,5 +1,4 @@
 -- `record_in` makes the tests of `recordIn` in its order, and reads the nine numbers where all of them hold.
-use borrow.Author.Rules.{rules}
 use mathlib.Core.Path.{ap, ◌∙◌}
 use mir.Syntax.{w32, w64}
 use Rattle.numbers.specs.Signed.{twos}

@@ -1,5 +1,4 @@
 -- `message` goes by what the slot is, and from a place it is `step_message`.
-use borrow.Author.Rules.{rules}
 use mathlib.Core.Path.{refl, sym, ◌∙◌}
 use Rattle.answers.proofs.laws.Messages.{slot-steps}
 use Rattle.answers.proofs.step.message.Goals as goal

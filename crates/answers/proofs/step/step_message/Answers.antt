@@ -1,5 +1,4 @@
 -- `step_message` tests `out`, and then answers what the iterator's step does; the state that it hands back goes into the slot.
-use borrow.Author.Rules.{rules}
 use mathlib.Core.Path.{refl, ap, ◌∙◌}
 use Rattle.answers.specs.Words.{filled}
 use Rattle.answers.proofs.laws.Messages.{out-short, place-steps}

@@ -1,5 +1,4 @@
 -- `bits_i32` widens its number, which stays the same, and gives its bits.
-use borrow.Author.Rules.{rules}
 use mathlib.Core.Path.{ap, ◌∙◌}
 use mir.Syntax.{w64}
 use mir.Facts.{to_z-of_z}

@@ -1,9 +1,6 @@
 -- `put_all` puts each number behind the last.
-use Prim.Native.Nat.{◌-◌}
 use native.Mathlib.Omega.{arith}
-use lib.ListN.{length}
-use borrow.Author.Rules.{rules}
-use Rattle.answers.proofs.laws.Words.{Putting, put-none, put_next, put-length, put-done}
+use Rattle.answers.proofs.laws.Words.{put-none, put_next, put-length, put-done}
 use Rattle.answers.proofs.words.put_all.Goals as goal
 
 pub loop-i-init : goal.loop-i-init

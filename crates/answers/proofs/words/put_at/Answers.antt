@@ -1,6 +1,5 @@
 -- `put_at` tests the room, and lends the numbers' own bytes.
 use native.Mathlib.Omega.{arith}
-use borrow.Author.Rules.{rules}
 use Rattle.answers.proofs.laws.Words.{put-room, put_back, put-outside}
 use Rattle.answers.proofs.words.put_at.Goals as goal
 

@@ -1,6 +1,5 @@
 -- `put_numbers` puts them at the slice's start.
 use mathlib.Core.Path.{◌∙◌}
-use borrow.Author.Rules.{rules}
 use Rattle.answers.proofs.laws.Words.{from_start}
 use Rattle.answers.proofs.words.put_numbers.Goals as goal
 

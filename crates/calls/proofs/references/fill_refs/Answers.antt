@@ -1,7 +1,5 @@
 -- `fill_refs` puts run after run of references, with a step of its own between two of them, until there is no more room or none more; that none
 -- is left is mostly seen without a step.
-use borrow.Author.Rules.{rules}
-use Prim.Native.Nat.{◌-◌}
 use native.Mathlib.Omega.{arith}
 use mathlib.Core.Path.{◌∙◌}
 use lib.Dec.{lit≤}

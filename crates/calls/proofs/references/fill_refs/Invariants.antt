@@ -1,15 +1,10 @@
 -- `fill_refs` puts run after run of references, with a step of its own between two of them, until there is no more room or none more; that none
 -- is left is mostly seen without a step.
-use borrow.Author.Rules.{rules}
 use Prim.Native.Nat.{◌-◌}
-use native.Mathlib.Omega.{arith}
-use mathlib.Core.Path.{◌∙◌}
-use lib.Dec.{lit≤}
 use Rattle.elements.specs.References.{refs_from}
 use Rattle.elements.specs.declared.references.WayRefIter.TheVariants as iter
 use Rattle.calls.specs.Filling.{Filling}
 use Rattle.calls.specs.References.{ref_item}
-use Rattle.calls.proofs.laws.Calls.{fill_begins, fill_on, fill_ends, fill_ended, fill_full}
 use Rattle.calls.proofs.references.fill_refs.Given as goal
 
 abbrev pub invariant-loop-count : goal.invariant-loop-count

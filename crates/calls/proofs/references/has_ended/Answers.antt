@@ -1,5 +1,4 @@
 -- `has_ended` goes by the state: of one that has not ended yet, by its column.
-use borrow.Author.Rules.{rules}
 use mathlib.Core.Path.{ap, ◌∙◌}
 use Rattle.elements.specs.References.{refs_from}
 use Rattle.calls.proofs.laws.Ended.{sums-ended}

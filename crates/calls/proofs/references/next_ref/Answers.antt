@@ -1,5 +1,4 @@
 -- `next_ref` is a call with room for one reference, which the short way serves, or else the state.
-use borrow.Author.Rules.{rules}
 use Rattle.calls.specs.Calls.{one_room}
 use Rattle.calls.specs.References.{refs_call}
 use Rattle.calls.proofs.laws.Calls.{with-room, own-items, served, not-served, unwritten}

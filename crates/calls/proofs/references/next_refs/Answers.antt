@@ -1,5 +1,4 @@
 -- `next_refs` is a call with room for as many references as fit.
-use borrow.Author.Rules.{rules}
 use Rattle.calls.specs.References.{refs_call}
 use Rattle.calls.proofs.laws.Calls.{with-room, call_counts, own-items}
 use Rattle.calls.proofs.references.next_refs.Goals as goal

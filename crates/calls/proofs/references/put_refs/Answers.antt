@@ -1,5 +1,4 @@
 -- `put_refs` puts the numbers of the state, which are read back.
-use borrow.Author.Rules.{rules}
 use Prim.Native.Nat.{ℕ}
 use native.Mathlib.Omega.{arith}
 use mathlib.Core.Path.{ap, ◌∙◌}

@@ -1,5 +1,4 @@
 -- `put_short_ref` tests what a call tests, and goes by the word of the next value; where that is 0, nothing was written.
-use borrow.Author.Rules.{rules}
 use Prim.Native.Nat.{ℕ, ◌+◌, ◌%◌}
 use native.Mathlib.Omega.{arith}
 use mathlib.Core.Path.{ap, ◌∙◌}

@@ -1,5 +1,4 @@
 -- `refs_in` goes by the phase, and reads the column and the sum where it is 1.
-use borrow.Author.Rules.{rules}
 use mathlib.Core.Path.{ap, ◌∙◌}
 use Rattle.elements.specs.declared.references.WayRefIter.TheVariants as iter
 use Rattle.calls.proofs.laws.References.{refs-ended, refs-outside, refs-there}

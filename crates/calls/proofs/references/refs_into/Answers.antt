@@ -1,5 +1,4 @@
 -- `refs_into` goes by what the slot holds, and puts the state behind what it hands out.
-use borrow.Author.Rules.{rules}
 use mathlib.Core.Path.{ap}
 use Rattle.elements.specs.References.{refs_from}
 use Rattle.elements.specs.declared.references.WayRefIter.TheVariants as iter

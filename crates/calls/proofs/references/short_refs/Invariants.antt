@@ -1,25 +1,14 @@
 -- `short_refs` adds the value of each word to the sum, and stops before what no word tells.
-use borrow.Author.Rules.{rules}
-use Prim.Native.Nat.{ℕ, ◌-◌, ◌*◌, ◌/◌}
-use native.Mathlib.Omega.{arith}
-use mathlib.Core.Path.{◌≡◌, refl, sym, ap, ◌∙◌}
-use mathlib.Core.List.{[], ◌∷◌}
-use lib.Dec.{lit≤}
+use Prim.Native.Nat.{ℕ, ◌-◌}
+use mathlib.Core.Path.{◌≡◌}
+use mathlib.Core.List.{[]}
 use lib.ListN.{length}
-use mir.Syntax.{w64}
-use mir.Val.{to_z, of_z}
-use Rattle.numbers.specs.Signed.{zigzag, wrapping_add}
-use Rattle.numbers.proofs.laws.Machine.{returned}
-use Rattle.columns.proofs.laws.Zip.{typed, summed}
 use lib.IntN.{ℤ}
 use Rattle.elements.specs.References.{refs_from}
 use Rattle.elements.specs.declared.references.WayRefIter.{WayRefIter}
 use Rattle.elements.specs.declared.references.WayRefIter.TheVariants as iter
-use Rattle.answers.specs.Words.{filled_at}
 use Rattle.calls.specs.Filling.{Run}
 use Rattle.calls.specs.References.{ref_item}
-use Rattle.calls.proofs.laws.Calls.{run-begins, run_on, run-from, puts-item}
-use Rattle.columns.proofs.laws.Short.{word_tells, word_within}
 use Rattle.calls.proofs.references.short_refs.Given as goal
 
 abbrev state_at : ℕ → ℕ → ℤ → WayRefIter

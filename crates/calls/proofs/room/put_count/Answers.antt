@@ -1,5 +1,4 @@
 -- `put_count` puts the number, unless it is 0.
-use borrow.Author.Rules.{rules}
 use borrow.Author.Tests.{eq-eqb, ne_eqb}
 use Rattle.calls.proofs.room.put_count.Goals as goal
 

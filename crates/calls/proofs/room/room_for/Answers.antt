@@ -1,5 +1,4 @@
 -- `room_for` counts the items that fit.
-use borrow.Author.Rules.{rules}
 use native.Mathlib.Omega.{arith}
 use native.Mathlib.Nat.{mul-div-le}
 use borrow.Author.Tests.{le-leb, lt-leb}

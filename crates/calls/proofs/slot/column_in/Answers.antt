@@ -1,5 +1,4 @@
 -- `column_in` reads two numbers.
-use borrow.Author.Rules.{rules}
 use Rattle.calls.proofs.slot.column_in.Goals as goal
 
 pub returns : goal.returns

@@ -1,5 +1,4 @@
 -- `sum_in` reads a column and the number behind it.
-use borrow.Author.Rules.{rules}
 use mathlib.Core.Path.{ap, ◌∙◌}
 use mir.Syntax.{w64}
 use Rattle.numbers.specs.Signed.{twos}

@@ -1,5 +1,4 @@
 -- `any_node` is `next_dense`, by its case.
-use borrow.Author.Rules.{rules}
 use mathlib.Core.Path.{sym, ap, ◌∙◌}
 use Rattle.protobuf.proofs.laws.Read.{says}
 use Rattle.kinds.specs.Dense.{dense_said}

@@ -1,5 +1,4 @@
 -- `move_sum` adds the word's value to the sum, and its bytes to the place.
-use borrow.Author.Rules.{rules}
 use mir.Syntax.{w64}
 use Prim.Native.Nat.{◌+◌, ◌%◌}
 use Rattle.columns.proofs.laws.Zip.{held-sum}

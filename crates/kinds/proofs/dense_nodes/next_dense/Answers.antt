@@ -1,5 +1,4 @@
 -- `next_dense` takes the next row, then passes its pairs.
-use borrow.Author.Rules.{rules}
 use mathlib.Core.Path.{refl, sym, ap, ◌∙◌}
 use mathlib.Core.Option.{none}
 use Rattle.protobuf.proofs.laws.Read.{says}

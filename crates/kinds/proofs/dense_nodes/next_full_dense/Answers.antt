@@ -1,5 +1,4 @@
 -- `next_full_dense` takes the next row, its info row, then passes its pairs; the end of the rows is told behind the info row.
-use borrow.Author.Rules.{rules}
 use mathlib.Core.Path.{refl, sym, ap, ◌∙◌}
 use Rattle.protobuf.proofs.laws.Read.{says}
 use Rattle.columns.specs.Inside.{behind_inside}

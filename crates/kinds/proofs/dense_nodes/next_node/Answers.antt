@@ -1,5 +1,4 @@
 -- `next_node` takes a node whose values are short by itself, and any other by `any_node`.
-use borrow.Author.Rules.{rules}
 use native.Mathlib.Omega.{arith}
 use mathlib.Core.Path.{sym, ap, ◌∙◌}
 use Rattle.protobuf.proofs.laws.Read.{says}

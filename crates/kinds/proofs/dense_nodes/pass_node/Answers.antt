@@ -1,5 +1,4 @@
 -- `pass_node` passes one byte where that is 0, which is the end of the pairs, and else the pairs.
-use borrow.Author.Rules.{rules}
 use native.Mathlib.Omega.{arith}
 use mathlib.Core.Path.{sym, ◌∙◌}
 use Rattle.kinds.proofs.laws.Dense.{byte_within, byte_behind, byte_passed, passed-inside}

@@ -1,5 +1,4 @@
 -- `read_info` is the next info row, of which a missing one is told as such.
-use borrow.Author.Rules.{rules}
 use mathlib.Core.Path.{refl, sym, ap, ◌∙◌}
 use mir.Syntax.{w32, w64}
 use Rattle.numbers.proofs.laws.Machine.{returned}

@@ -1,5 +1,4 @@
 -- `row_refusal` reads the info row before it tells 12.
-use borrow.Author.Rules.{rules}
 use mathlib.Core.Path.{sym, ◌∙◌}
 use Rattle.protobuf.proofs.laws.Read.{says}
 use Rattle.columns.specs.Zip.{infos_ahead}

@@ -1,5 +1,4 @@
 -- `info_in` is `infoIn`, by whether the walk is full.
-use borrow.Author.Rules.{rules}
 use mathlib.Core.Path.{sym, ap}
 use Rattle.kinds.specs.Loose.{info_in}
 use Rattle.kinds.proofs.messages.info_in.Goals as goal

@@ -1,5 +1,4 @@
 -- `next_loose` views the first message of the kind from the place on, and goes on behind its end.
-use borrow.Author.Rules.{rules}
 use native.Mathlib.Omega.{arith}
 use mathlib.Core.Path.{refl, sym}
 use borrow.Author.Tests.{le-leb}

@@ -1,5 +1,4 @@
 -- `view` goes by the kind.
-use borrow.Author.Rules.{rules}
 use mathlib.Core.Path.{sym, ap, ◌∙◌}
 use Rattle.kinds.specs.Loose.{viewed_as}
 use Rattle.kinds.proofs.messages.view.Goals as goal

@@ -1,5 +1,4 @@
 -- `view_way` hands out what the view keeps, with the Info's part that the walk shows.
-use borrow.Author.Rules.{rules}
 use mathlib.Core.Path.{sym, ap, ◌∙◌}
 use Rattle.protobuf.proofs.laws.Read.{says}
 use Rattle.fields.specs.declared.part.Part.{Part}

@@ -1,5 +1,4 @@
 -- `put_dense` gives `denseNodeWords`, the metadata behind the other numbers.
-use borrow.Author.Rules.{rules}
 use native.Mathlib.Omega.{arith}
 use mathlib.Core.List.{[], ◌∷◌}
 use mir.Syntax.{w64}

@@ -1,5 +1,4 @@
 -- `put_element` tests the room, and puts the element's own numbers behind its kind, group and part.
-use borrow.Author.Rules.{rules}
 use native.Mathlib.Omega.{arith}
 use Rattle.layouts.proofs.laws.Element.{element-outside, element-inside}
 use Rattle.layouts.proofs.element.put_element.Goals as goal

@@ -1,5 +1,4 @@
 -- `put_info` gives `nodeInfoWords`, by the metadata's case; a signed number is passed as its bits.
-use borrow.Author.Rules.{rules}
 use native.Mathlib.Omega.{arith}
 use mir.Syntax.{w32, w64}
 use Rattle.elements.specs.declared.element.NodeInfo.TheVariants as info

@@ -1,5 +1,4 @@
 -- `put_own` gives `own_words`, by the element's kind.
-use borrow.Author.Rules.{rules}
 use native.Mathlib.Omega.{arith}
 use mathlib.Core.Path.{sym, ap, ◌∙◌}
 use Rattle.numbers.specs.Little.{written}

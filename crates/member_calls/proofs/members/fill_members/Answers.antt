@@ -1,6 +1,4 @@
 -- `fill_members` puts run after run of members, with a step of its own between two of them, until there is no more room or none more.
-use borrow.Author.Rules.{rules}
-use Prim.Native.Nat.{◌-◌}
 use native.Mathlib.Omega.{arith}
 use mathlib.Core.Path.{◌∙◌}
 use Rattle.elements.specs.Members.{members_from}

@@ -1,14 +1,9 @@
 -- `fill_members` puts run after run of members, with a step of its own between two of them, until there is no more room or none more.
-use borrow.Author.Rules.{rules}
 use Prim.Native.Nat.{◌-◌}
-use native.Mathlib.Omega.{arith}
-use mathlib.Core.Path.{◌∙◌}
 use Rattle.elements.specs.Members.{members_from}
 use Rattle.elements.specs.declared.members.RelMemberIter.TheVariants as iter
 use Rattle.calls.specs.Filling.{Filling}
 use Rattle.member_calls.specs.Members.{member_item}
-use Rattle.calls.proofs.laws.Calls.{fill_begins, fill_on, fill_ends, fill_full}
-use Rattle.member_calls.proofs.laws.Members.{item-size}
 use Rattle.member_calls.proofs.members.fill_members.Given as goal
 
 abbrev pub invariant-loop-count : goal.invariant-loop-count

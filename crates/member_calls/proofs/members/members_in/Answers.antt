@@ -1,5 +1,4 @@
 -- `members_in` goes by the phase, and reads the three columns where it is 1.
-use borrow.Author.Rules.{rules}
 use mathlib.Core.Path.{◌≡◌, ap, ◌∙◌}
 use mir.Syntax.{w64}
 use Rattle.numbers.specs.Signed.{twos}

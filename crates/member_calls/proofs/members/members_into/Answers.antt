@@ -1,5 +1,4 @@
 -- `members_into` goes by what the slot holds, and puts the state behind what it hands out.
-use borrow.Author.Rules.{rules}
 use mathlib.Core.Path.{ap}
 use Rattle.elements.specs.declared.members.RelMemberIter.TheVariants as iter
 use Rattle.member_calls.specs.Members.{member_words, members_at, member_item, members_over, members_in}

@@ -1,5 +1,4 @@
 -- `members_over` reads the record, and fills where there is one.
-use borrow.Author.Rules.{rules}
 use Rattle.protobuf.proofs.laws.Read.{says}
 use Rattle.elements.specs.Members.{members_from}
 use Rattle.elements.specs.declared.members.RelMemberIter.TheVariants as iter

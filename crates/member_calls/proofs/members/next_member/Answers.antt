@@ -1,5 +1,4 @@
 -- `next_member` is a call with room for one member.
-use borrow.Author.Rules.{rules}
 use Rattle.member_calls.specs.Members.{members_call}
 use Rattle.calls.proofs.laws.Calls.{with-room, own-items}
 use Rattle.member_calls.proofs.members.next_member.Goals as goal

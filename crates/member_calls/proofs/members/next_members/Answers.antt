@@ -1,5 +1,4 @@
 -- `next_members` is a call with room for as many members as fit.
-use borrow.Author.Rules.{rules}
 use Rattle.member_calls.specs.Members.{members_call}
 use Rattle.calls.proofs.laws.Calls.{with-room, call_counts, own-items}
 use Rattle.member_calls.proofs.members.next_members.Goals as goal

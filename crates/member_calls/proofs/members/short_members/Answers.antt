@@ -1,19 +1,16 @@
 -- `short_members` puts the member of each three words, and stops before what no words tell, a role of 2^31 or more and a type of no known
 -- case.
-use borrow.Author.Rules.{rules}
-use Prim.Native.Nat.{ℕ, ◌-◌, ◌*◌, ◌/◌}
+use Prim.Native.Nat.{ℕ, ◌*◌, ◌/◌}
 use native.Mathlib.Omega.{arith}
 use mathlib.Core.Bool.{true}
 use mathlib.Core.Path.{◌≡◌, refl, sym, ap, ◌∙◌}
 use mathlib.Core.List.{[], ◌∷◌}
-use lib.ListN.{length}
 use mir.Syntax.{w64}
 use mir.Val.{to_z, of_z}
 use Rattle.numbers.specs.Signed.{zigzag, wrapping_add}
 use Rattle.numbers.proofs.laws.Machine.{returned}
 use Rattle.protobuf.specs.declared.column.Column.{Column}
 use Rattle.fields.proofs.laws.Part.{confirmed}
-use Rattle.wire.specs.declared.record.WireBlock.{WireBlock}
 use Rattle.lookup.specs.Lookup.{is_record_inside}
 use Rattle.elements.specs.Members.{members_from}
 use Rattle.elements.specs.declared.members.RelMemberIter.{RelMemberIter}

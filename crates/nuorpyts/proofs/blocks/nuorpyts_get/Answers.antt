@@ -1,16 +1,12 @@
 -- `nuorpyts_get` tests the room for the answer, then the record; then code and bytes are those of what `get` gave.
-use borrow.Author.Rules.{rules}
-use Prim.Native.Nat.{ℕ}
-use mathlib.Core.List.{List}
-use mathlib.Core.Path.{◌≡◌, refl, ap, ◌∙◌}
+use mathlib.Core.Path.{refl, ap, ◌∙◌}
 use Rattle.protobuf.proofs.laws.Read.{says}
 use Rattle.answers.specs.Words.{filled}
 use Rattle.answers.specs.Record.{record_of}
-use Rattle.lookup.specs.declared.by_number.Got.{Got}
 use Rattle.lookup.specs.Lookup.{get_at}
-use Rattle.nuorpyts.specs.Block.{get_in, got_code, got_after}
+use Rattle.nuorpyts.specs.Block.{get_in}
 use Rattle.nuorpyts.proofs.laws.Block.{got_no-record, got_with-record, got_short, got_answer}
-use Rattle.nuorpyts.proofs.laws.Scanned.{GetClauses, get_clauses}
+use Rattle.nuorpyts.proofs.laws.Scanned.{get_clauses}
 -- where the call was entered
 use Rattle.nuorpyts.proofs.blocks.nuorpyts_get.Goals as goal
 

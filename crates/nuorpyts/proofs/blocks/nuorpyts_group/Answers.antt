@@ -1,16 +1,12 @@
 -- `nuorpyts_group` tests the room for the answer, then the record; then code and bytes are those of what `group` gave.
-use borrow.Author.Rules.{rules}
-use Prim.Native.Nat.{ℕ}
-use mathlib.Core.List.{List}
-use mathlib.Core.Path.{◌≡◌, refl}
+use mathlib.Core.Path.{refl}
 use Rattle.protobuf.proofs.laws.Read.{says}
-use Rattle.lookup.specs.declared.by_number.GroupRange.{GroupRange}
 use Rattle.answers.specs.Record.{record_of}
 use Rattle.answers.specs.Group.{range_words}
-use Rattle.answers.proofs.laws.Codes.{Answered, answer-short, answer-refused, answer-kept}
-use Rattle.nuorpyts.specs.Block.{group_in, range_of}
+use Rattle.answers.proofs.laws.Codes.{answer-short, answer-refused, answer-kept}
+use Rattle.nuorpyts.specs.Block.{group_in}
 use Rattle.nuorpyts.proofs.laws.Block.{group-no-record, group-with-record}
-use Rattle.nuorpyts.proofs.laws.Scanned.{GroupClauses, group_clauses}
+use Rattle.nuorpyts.proofs.laws.Scanned.{group_clauses}
 -- where the call was entered
 use Rattle.nuorpyts.proofs.blocks.nuorpyts_group.Goals as goal
 

@@ -1,5 +1,4 @@
 -- `nuorpyts_scan` tests the room for the record first; then the code, the record and the tables are those of the scan.
-use borrow.Author.Rules.{rules}
 use native.Mathlib.Omega.{arith}
 use mathlib.Core.Path.{◌≡◌, refl, sym, ap, ◌∙◌}
 use Rattle.protobuf.proofs.laws.Read.{says}

@@ -1,5 +1,4 @@
 -- `nuorpyts_check` tests the record; then the code is that of what `check` gave.
-use borrow.Author.Rules.{rules}
 use mathlib.Core.Path.{sym, ap, ◌∙◌}
 use Rattle.protobuf.proofs.laws.Read.{says}
 use Rattle.passes.specs.Checked.{check_of}

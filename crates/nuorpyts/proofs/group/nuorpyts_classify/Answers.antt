@@ -1,5 +1,4 @@
 -- `nuorpyts_classify` tests the room for the answer, then the range; then the number is that of the kind of the bytes there.
-use borrow.Author.Rules.{rules}
 use native.Mathlib.Omega.{arith}
 use Prim.Native.Nat.{◌+◌, ◌≤◌}
 use mathlib.Core.Bool.{true}

@@ -1,15 +1,8 @@
 -- `nuorpyts_same_listing` tests the room for the answer, then the two records; then code and bytes are those of what the driver said.
-use borrow.Author.Rules.{rules}
-use Prim.Native.Nat.{ℕ}
-use mathlib.Core.List.{List}
-use mathlib.Core.Path.{◌≡◌, refl}
+use mathlib.Core.Path.{refl}
 use Rattle.protobuf.proofs.laws.Read.{says}
-use Rattle.answers.specs.Codes.{code_of, answer_after}
 use Rattle.answers.specs.Record.{record_of}
-use Rattle.same.specs.declared.compared.Compared.{Compared}
-use Rattle.same.specs.Compared.{compared_of}
-use Rattle.nuorpyts.specs.Same.{same_words}
-use Rattle.nuorpyts.proofs.laws.Same.{SameClauses, same-short, first-no-record, second-no-record, with_records}
+use Rattle.nuorpyts.proofs.laws.Same.{same-short, first-no-record, second-no-record, with_records}
 -- where the call was entered, and the first record's reading
 use Rattle.nuorpyts.proofs.listings.nuorpyts_same_listing.Goals as goal
 

@@ -1,5 +1,4 @@
 -- `nuorpyts_node` tests `out`, and then answers what `WireNode::parse` does.
-use borrow.Author.Rules.{rules}
 use native.Mathlib.Omega.{arith}
 use mathlib.Core.Path.{refl}
 use Rattle.protobuf.proofs.laws.Read.{says}

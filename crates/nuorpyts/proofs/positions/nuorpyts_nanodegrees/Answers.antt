@@ -1,5 +1,4 @@
 -- `nuorpyts_nanodegrees` tests the room for the answer, then the record; then the two positions are put.
-use borrow.Author.Rules.{rules}
 use mathlib.Core.Path.{refl}
 use Rattle.protobuf.proofs.laws.Read.{says}
 use Rattle.answers.specs.Record.{record_of}

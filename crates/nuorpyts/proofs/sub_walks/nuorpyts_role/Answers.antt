@@ -1,22 +1,17 @@
 -- `nuorpyts_role` tests the room for the answer, the number and the record; then code and bytes are those of what `role_text` gave.
-use borrow.Author.Rules.{rules}
-use Prim.Native.Nat.{ℕ}
-use mathlib.Core.List.{List}
-use mathlib.Core.Path.{◌≡◌, refl, ap, ◌∙◌}
+use mathlib.Core.Path.{refl, ap, ◌∙◌}
 use lib.IntN.{ℤ}
 use mir.Syntax.{w32}
 use Rattle.numbers.specs.Signed.{twos}
 use Rattle.numbers.proofs.laws.Machine.{returned}
 use Rattle.protobuf.proofs.laws.Read.{says}
 use Rattle.fields.proofs.laws.Part.{refuted, confirmed}
-use Rattle.lookup.specs.declared.by_number.Got.{Got}
 use Rattle.elements.specs.Members.{role_at}
 use Rattle.answers.specs.Words.{filled}
 use Rattle.answers.specs.Record.{record_of}
-use Rattle.nuorpyts.specs.Block.{got_code, got_after}
 use Rattle.nuorpyts.specs.Walks.{role_in}
 use Rattle.nuorpyts.proofs.laws.Block.{got_no-record, got_with-record, got_short, got_answer}
-use Rattle.nuorpyts.proofs.laws.Scanned.{RoleClauses, role_clauses}
+use Rattle.nuorpyts.proofs.laws.Scanned.{role_clauses}
 use Rattle.nuorpyts.proofs.laws.Walks.{role-wide, role-narrow}
 -- where the call was entered
 use Rattle.nuorpyts.proofs.sub_walks.nuorpyts_role.Goals as goal

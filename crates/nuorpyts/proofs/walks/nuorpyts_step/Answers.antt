@@ -1,6 +1,5 @@
 -- `nuorpyts_step` answers what the short way does where it serves, and else what `next_step` does; the claim about two blocks holds of every
 -- buffer and record.
-use borrow.Author.Rules.{rules}
 use Rattle.short_calls.proofs.laws.Short.{step_served, step_unserved}
 use Rattle.nuorpyts.proofs.laws.Chains.{whole_in}
 use Rattle.nuorpyts.proofs.walks.nuorpyts_step.Goals as goal

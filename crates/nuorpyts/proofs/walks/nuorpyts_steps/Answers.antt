@@ -1,5 +1,4 @@
 -- `nuorpyts_steps` answers what `next_steps` does; the claim about two blocks holds of every buffer and record.
-use borrow.Author.Rules.{rules}
 use Rattle.nuorpyts.proofs.laws.Chains.{whole_in}
 use Rattle.nuorpyts.proofs.walks.nuorpyts_steps.Goals as goal
 

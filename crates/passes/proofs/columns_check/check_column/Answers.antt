@@ -1,5 +1,4 @@
 -- `check_column` counts from the start of the part.
-use borrow.Author.Rules.{rules}
 use mathlib.Core.Path.{ap, ◌∙◌}
 use Rattle.fields.specs.Outcome.{onward}
 use Rattle.block.specs.Check.{passed}

@@ -1,5 +1,4 @@
 -- `check_count` is the count without its number.
-use borrow.Author.Rules.{rules}
 use mathlib.Core.Path.{sym, ap}
 use Rattle.columns.specs.Counts.{counted}
 use Rattle.block.proofs.laws.Onward.{on-refused, on-kept}

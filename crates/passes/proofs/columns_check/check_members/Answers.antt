@@ -1,5 +1,4 @@
 -- `check_members` is `count_three` without its number.
-use borrow.Author.Rules.{rules}
 use mathlib.Core.Path.{ap, ◌∙◌}
 use Rattle.fields.specs.Outcome.{onward}
 use Rattle.block.specs.Check.{passed}

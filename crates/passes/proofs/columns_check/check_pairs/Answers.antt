@@ -1,12 +1,8 @@
 -- `check_pairs` passes one node's pairs after the other: what the check of the nodes left says is what the check of all says.
-use borrow.Author.Rules.{rules}
-use Prim.Native.Nat.{◌-◌}
 use native.Mathlib.Nat.{sub-zero}
 use native.Mathlib.Omega.{arith}
-use mathlib.Core.Path.{◌≡◌, sym, ◌∙◌}
+use mathlib.Core.Path.{sym, ◌∙◌}
 use Rattle.protobuf.proofs.laws.Read.{says}
-use Rattle.block.specs.Check.{check_pairs}
-use Rattle.columns.specs.InStep.{ahead}
 use Rattle.columns.specs.KeysVals.{behind_of}
 use Rattle.passes.proofs.laws.Pairs.{nodes-passed, node-passed, node-refused}
 use Rattle.passes.proofs.columns_check.check_pairs.Goals as goal

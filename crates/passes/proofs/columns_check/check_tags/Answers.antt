@@ -1,5 +1,4 @@
 -- `check_tags` counts both columns, each from the start of its part, and has them agree.
-use borrow.Author.Rules.{rules}
 use mathlib.Core.Path.{ap, ◌∙◌}
 use Rattle.fields.specs.Outcome.{onward}
 use Rattle.block.specs.Check.{passed, agreed}

@@ -1,5 +1,4 @@
 -- `count_three` counts all three before it has them agree.
-use borrow.Author.Rules.{rules}
 use mathlib.Core.Path.{◌∙◌}
 use Rattle.block.specs.Check.{agreed}
 use Rattle.columns.proofs.laws.Count.{counted_start}

@@ -1,5 +1,4 @@
 -- `check_dense` reads the message, its DenseInfo, its rows and its info columns.
-use borrow.Author.Rules.{rules}
 use native.Mathlib.Omega.{arith}
 use mathlib.Core.Path.{sym, ap, ◌∙◌}
 use Rattle.protobuf.proofs.laws.Read.{says}

@@ -1,5 +1,4 @@
 -- `check_info_columns` reads six columns by threes.
-use borrow.Author.Rules.{rules}
 use mathlib.Core.Path.{sym, ◌∙◌}
 use mathlib.Core.List.{[], ◌∷◌}
 use Rattle.protobuf.proofs.laws.Read.{says}

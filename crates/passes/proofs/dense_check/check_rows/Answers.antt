@@ -1,5 +1,4 @@
 -- `check_rows` compares the three counts, and then walks keys_vals for as many nodes.
-use borrow.Author.Rules.{rules}
 use mathlib.Core.Path.{sym, ◌∙◌}
 use Rattle.protobuf.proofs.laws.Read.{says}
 use Rattle.columns.specs.Counts.{counted}

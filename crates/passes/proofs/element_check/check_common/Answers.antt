@@ -1,5 +1,4 @@
 -- `check_common` reads the Info by its own bytes, and then keys and vals.
-use borrow.Author.Rules.{rules}
 use mathlib.Core.Path.{sym, ap, ◌∙◌}
 use Rattle.protobuf.proofs.laws.Read.{says}
 use Rattle.block.specs.Check.{check_info}

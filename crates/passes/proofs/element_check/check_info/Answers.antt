@@ -1,5 +1,4 @@
 -- `check_info` is the view of an Info without what it hands out.
-use borrow.Author.Rules.{rules}
 use mathlib.Core.Path.{sym}
 use Prim.Native.Nat.{ℕ}
 use Rattle.protobuf.proofs.laws.Read.{says}

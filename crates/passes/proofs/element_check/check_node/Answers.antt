@@ -1,5 +1,4 @@
 -- `check_node` reads what every element has, and a node has nothing else that is read.
-use borrow.Author.Rules.{rules}
 use native.Mathlib.Omega.{arith}
 use mathlib.Core.Path.{refl, sym}
 use Rattle.protobuf.proofs.laws.Read.{says}

@@ -1,5 +1,4 @@
 -- `check_way` reads what every element has, and then its references.
-use borrow.Author.Rules.{rules}
 use native.Mathlib.Omega.{arith}
 use mathlib.Core.Path.{refl, sym, ap, ◌∙◌}
 use Rattle.protobuf.proofs.laws.Read.{says}

@@ -1,5 +1,4 @@
 -- `head_of` takes the numbers of each kind of element.
-use borrow.Author.Rules.{rules}
 use mathlib.Core.Path.{sym, ap, ◌∙◌}
 use Rattle.same.specs.Heads.{head_of}
 use Rattle.same.proofs.laws.Heads.{placed_head, plain_head}

@@ -1,9 +1,6 @@
 -- `same_element` compares the heads, and where they are the same what is read of the two.
-use borrow.Author.Rules.{rules}
-use mathlib.Core.Path.{◌≡◌, ◌∙◌}
-use Rattle.fields.specs.declared.part.Part.{Part}
+use mathlib.Core.Path.{◌∙◌}
 use Rattle.walk.specs.Same.{same_head}
-use Rattle.same.specs.Heads.{found_by}
 use Rattle.same.proofs.laws.Compared.{test_stops, test_goes-on}
 use Rattle.same.proofs.laws.Heads.{heads-same}
 use Rattle.same.proofs.items.same_element.Goals as goal

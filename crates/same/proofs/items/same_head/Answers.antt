@@ -1,5 +1,4 @@
 -- `same_head` compares one number after the other.
-use borrow.Author.Rules.{rules}
 use mathlib.Core.Path.{◌≡◌}
 use mir.Syntax.{w64}
 use Rattle.walk.specs.Same.{same_number}

@@ -1,5 +1,4 @@
 -- `same_item` compares the tags, then the references, then the members, each from their start at the element.
-use borrow.Author.Rules.{rules}
 use mathlib.Core.Path.{◌≡◌, ap, ◌∙◌}
 use Rattle.elements.specs.Tags.{tags_from}
 use Rattle.elements.specs.References.{refs_from}

@@ -1,5 +1,4 @@
 -- `both_checked` asks for 14 of the second only where both are refused.
-use borrow.Author.Rules.{rules}
 use mathlib.Core.Path.{sym, ◌∙◌}
 use Rattle.same.proofs.laws.Listing.{second-outside, first-before}
 use Rattle.same.proofs.listing.both_checked.Goals as goal

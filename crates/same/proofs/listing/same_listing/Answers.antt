@@ -1,5 +1,4 @@
 -- `same_listing` checks both, and walks both where neither is refused; the clauses about accepted blocks follow from what that comes to.
-use borrow.Author.Rules.{rules}
 use mathlib.Core.Path.{◌≡◌, sym, ◌∙◌}
 use Rattle.protobuf.proofs.laws.Read.{says}
 use Rattle.passes.specs.Checked.{check_of}

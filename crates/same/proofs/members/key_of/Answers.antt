@@ -1,5 +1,4 @@
 -- `key_of` takes the numbers of each case.
-use borrow.Author.Rules.{rules}
 use mathlib.Core.Path.{sym, ap, ◌∙◌}
 use Rattle.same.specs.Members.{key_of}
 use Rattle.same.proofs.laws.Members.{held-key, plain-key}

@@ -1,5 +1,4 @@
 -- `same_member` compares the roles, and where they are the same the ids.
-use borrow.Author.Rules.{rules}
 use mathlib.Core.Path.{◌≡◌, refl, ap, ◌∙◌}
 use mir.Syntax.{w32}
 use Rattle.numbers.proofs.laws.Machine.{returned}

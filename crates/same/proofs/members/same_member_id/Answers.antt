@@ -1,5 +1,4 @@
 -- `same_member_id` compares the numbers of the two ids.
-use borrow.Author.Rules.{rules}
 use mathlib.Core.Path.{◌≡◌, ◌∙◌}
 use mir.Syntax.{w32, w64}
 use Rattle.walk.specs.Same.{same_number}

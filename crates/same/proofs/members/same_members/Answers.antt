@@ -1,9 +1,8 @@
 -- `same_members` steps both, as long as they hand out the same.
-use borrow.Author.Rules.{rules}
 use mathlib.Core.Path.{ap, ◌∙◌}
 use Rattle.protobuf.proofs.laws.Read.{says}
 use Rattle.elements.specs.Members.{members_from, member_said}
-use Rattle.columns.proofs.laws.InStep.{size, more_shortens}
+use Rattle.columns.proofs.laws.InStep.{more_shortens}
 use Rattle.walk.specs.Same.{same_member}
 use Rattle.same.specs.Compared.{compared_of}
 use Rattle.same.proofs.laws.Compared.{stops}

@@ -1,5 +1,4 @@
 -- `same_role` looks both texts up, and compares them where there are two.
-use borrow.Author.Rules.{rules}
 use mathlib.Core.Path.{◌≡◌, refl, sym, ap, ◌∙◌}
 use mir.Syntax.{w32}
 use mir.ValLaws.{to_z-of_z}

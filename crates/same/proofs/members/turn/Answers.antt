@@ -1,5 +1,4 @@
 -- `turn` says what the step does, without what it hands out.
-use borrow.Author.Rules.{rules}
 use mathlib.Core.Path.{sym, ap}
 use Rattle.same.specs.Turns.{member_turn}
 use Rattle.same.proofs.members.turn.Goals as goal

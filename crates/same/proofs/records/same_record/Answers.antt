@@ -1,5 +1,4 @@
 -- `same_record` compares one number after the other.
-use borrow.Author.Rules.{rules}
 use mathlib.Core.Path.{◌≡◌, refl}
 use mir.Syntax.{w32, w64}
 use Rattle.walk.specs.Same.{same_number}

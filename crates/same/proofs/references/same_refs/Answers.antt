@@ -1,12 +1,11 @@
 -- `same_refs` steps both, as long as they hand out the same.
-use borrow.Author.Rules.{rules}
 use mathlib.Core.Path.{◌≡◌, ap}
 use mir.Syntax.{w64}
 use Rattle.protobuf.proofs.laws.Read.{says}
 use Rattle.fields.specs.Outcome.{kept}
 use Rattle.fields.proofs.laws.Part.{refuted, confirmed}
 use Rattle.elements.specs.References.{refs_from, ref_said}
-use Rattle.columns.proofs.laws.InStep.{size, more_shortens}
+use Rattle.columns.proofs.laws.InStep.{more_shortens}
 use Rattle.walk.specs.Same.{same_number}
 use Rattle.same.proofs.laws.Values.{held_same}
 use Rattle.same.proofs.laws.InStep.{InStep, set_out, both_step, two-differ, two-same}

@@ -1,5 +1,4 @@
 -- `same_tag` compares the keys, and then the values.
-use borrow.Author.Rules.{rules}
 use mathlib.Core.Path.{◌∙◌}
 use Rattle.walk.specs.Same.{same_text}
 use Rattle.same.proofs.laws.Values.{test_fails, test_holds}

@@ -1,11 +1,10 @@
 -- `same_tags` steps both, as long as they hand out the same.
-use borrow.Author.Rules.{rules}
 use mathlib.Core.Path.{ap}
 use Rattle.protobuf.proofs.laws.Read.{says}
 use Rattle.fields.specs.Outcome.{kept}
 use Rattle.fields.proofs.laws.Part.{refuted, confirmed}
 use Rattle.elements.specs.Tags.{tags_from, tag_said}
-use Rattle.columns.proofs.laws.InStep.{size, more_shortens}
+use Rattle.columns.proofs.laws.InStep.{more_shortens}
 use Rattle.walk.specs.Same.{same_tag}
 use Rattle.same.proofs.laws.InStep.{InStep, set_out, both_step, two-differ, two-same}
 use Rattle.same.proofs.laws.Tags.{tag-stands}

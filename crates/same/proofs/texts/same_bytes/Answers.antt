@@ -1,9 +1,7 @@
 -- `same_bytes` has found the bytes before its place equal.
-use Prim.Native.Nat.{◌-◌}
 use native.Mathlib.Omega.{arith}
 use mathlib.Core.Path.{sym}
-use lib.ListN.{length}
-use Rattle.same.proofs.laws.Texts.{unequal_lengths, Matched, matched_none, matched_all, matched_not, matched_more}
+use Rattle.same.proofs.laws.Texts.{unequal_lengths, matched_none, matched_all, matched_not, matched_more}
 use Rattle.same.proofs.texts.same_bytes.Goals as goal
 
 pub returns-then-a-b : goal.returns-then-a-b

@@ -1,5 +1,4 @@
 -- `same_text` compares the bytes of the two parts.
-use borrow.Author.Rules.{rules}
 use mathlib.Core.Path.{◌∙◌}
 use Rattle.walk.specs.Same.{same_text}
 use Rattle.same.proofs.texts.same_text.Goals as goal

@@ -1,5 +1,4 @@
 -- `ends` makes the cases of `endsOf`.
-use borrow.Author.Rules.{rules}
 use mathlib.Core.Path.{sym}
 use Rattle.same.specs.Turns.{ends_of}
 use Rattle.same.proofs.turns.ends.Goals as goal

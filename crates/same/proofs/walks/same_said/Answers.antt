@@ -1,5 +1,4 @@
 -- `same_said` compares two elements, and else says what the two come to.
-use borrow.Author.Rules.{rules}
 use mathlib.Core.Path.{◌∙◌, ap, subst}
 use Rattle.protobuf.specs.Stream.{end}
 use Rattle.protobuf.specs.Column.{ended}

@@ -1,5 +1,4 @@
 -- `same_walks` compares the records, and then the elements.
-use borrow.Author.Rules.{rules}
 use Rattle.walk.specs.Same.{same_walks}
 use Rattle.same.proofs.laws.Compared.{test_stops, test_goes-on}
 use Rattle.same.proofs.walks.same_walks.Goals as goal

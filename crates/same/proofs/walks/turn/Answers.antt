@@ -1,5 +1,4 @@
 -- `turn` says what was said, without what it hands out.
-use borrow.Author.Rules.{rules}
 use mathlib.Core.Path.{sym, ap}
 use Rattle.same.specs.Walks.{element_turn}
 use Rattle.same.proofs.walks.turn.Goals as goal

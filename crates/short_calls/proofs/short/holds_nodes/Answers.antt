@@ -1,5 +1,4 @@
 -- `holds_nodes` looks at the length, the phase and the flag.
-use borrow.Author.Rules.{rules}
 use mathlib.Core.Path.{sym}
 use mathlib.Core.Bool.{true≢false}
 use borrow.Author.Tests.{eqb-true}

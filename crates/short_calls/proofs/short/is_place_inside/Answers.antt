@@ -1,5 +1,4 @@
 -- `is_place_inside` tests the record, the group and the message.
-use borrow.Author.Rules.{rules}
 use Prim.Native.Nat.{◌+◌}
 use native.Mathlib.Omega.{arith}
 use mathlib.Core.Path.{sym, ◌∙◌}

@@ -1,5 +1,4 @@
 -- `put_behind` puts the slot's own numbers again, with the places and the sums behind the node.
-use borrow.Author.Rules.{rules}
 use Prim.Native.Nat.{◌+◌, ◌%◌}
 use native.Mathlib.Omega.{arith}
 use mathlib.Core.Path.{◌∙◌}

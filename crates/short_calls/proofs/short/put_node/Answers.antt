@@ -1,5 +1,4 @@
 -- `put_node` puts ten numbers, of which it reads five from the slot.
-use borrow.Author.Rules.{rules}
 use mathlib.Core.Path.{◌∙◌}
 use mathlib.Core.List.{[], ◌∷◌}
 use Rattle.answers.specs.Words.{filled}

@@ -1,5 +1,4 @@
 -- `short_step` tests what a call tests, and goes by the words of a row; where one is 0, nothing was written.
-use borrow.Author.Rules.{rules}
 use Prim.Native.Nat.{ℕ, ◌+◌, ◌%◌}
 use native.Mathlib.Omega.{arith}
 use mathlib.Core.Path.{◌≡◌, refl, sym, ◌∙◌}

@@ -1,5 +1,4 @@
 -- `sum_behind` adds the word's value to the sum, and answers its bits.
-use borrow.Author.Rules.{rules}
 use Prim.Native.Nat.{◌^◌, ◌<◌}
 use mathlib.Core.Path.{ap, ◌∙◌, subst}
 use lib.IntN.{ℤ}

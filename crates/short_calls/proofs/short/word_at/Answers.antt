@@ -1,5 +1,4 @@
 -- `word_at` is the word of the column whose numbers it reads.
-use borrow.Author.Rules.{rules}
 use Rattle.short_calls.proofs.short.word_at.Goals as goal
 
 pub returns : goal.returns

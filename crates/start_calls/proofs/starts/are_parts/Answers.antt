@@ -1,5 +1,4 @@
 -- `are_parts` tests one part after the other.
-use borrow.Author.Rules.{rules}
 use Rattle.fields.proofs.laws.Part.{refuted, confirmed}
 use Rattle.start_calls.proofs.starts.are_parts.Goals as goal
 

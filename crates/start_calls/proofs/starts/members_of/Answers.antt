@@ -1,5 +1,4 @@
 -- `members_of` makes the tests of `membersStartIn` in its order.
-use borrow.Author.Rules.{rules}
 use mathlib.Core.Path.{refl}
 use lib.IntN.{pos}
 use Rattle.fields.proofs.laws.Part.{refuted, confirmed}

@@ -1,5 +1,4 @@
 -- `refs_of` makes the tests of `refsStartIn` in its order.
-use borrow.Author.Rules.{rules}
 use mathlib.Core.Path.{refl, ap}
 use lib.IntN.{pos}
 use Rattle.protobuf.specs.declared.column.Column.{Column}

@@ -1,5 +1,4 @@
 -- `start_at` reads the part, and starts there.
-use borrow.Author.Rules.{rules}
 use mathlib.Core.Path.{◌∙◌}
 use lib.Dec.{eqb}
 use Rattle.columns.specs.InStep.{start_of}

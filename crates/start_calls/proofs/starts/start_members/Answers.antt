@@ -1,5 +1,4 @@
 -- `start_members` puts the state that the element's bytes start at.
-use borrow.Author.Rules.{rules}
 use Rattle.elements.specs.declared.members.RelMemberIter.TheVariants as iter
 use Rattle.member_calls.specs.Members.{member_words, members_at}
 use Rattle.start_calls.specs.Starts.{members_start_in}

@@ -1,5 +1,4 @@
 -- `start_refs` puts the state that the element's bytes start at.
-use borrow.Author.Rules.{rules}
 use Rattle.elements.specs.declared.references.WayRefIter.TheVariants as iter
 use Rattle.calls.specs.References.{ref_words, refs_at}
 use Rattle.start_calls.specs.Starts.{refs_start_in}

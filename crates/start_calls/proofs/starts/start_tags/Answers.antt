@@ -1,5 +1,4 @@
 -- `start_tags` puts the state that the element's bytes start at.
-use borrow.Author.Rules.{rules}
 use Rattle.elements.specs.declared.tags.TagIter.TheVariants as iter
 use Rattle.tag_calls.specs.Tags.{tag_words, tags_at}
 use Rattle.start_calls.specs.Starts.{tags_start_in}

@@ -1,5 +1,4 @@
 -- `tags_of` makes the tests of `tagsStartIn` in its order.
-use borrow.Author.Rules.{rules}
 use mathlib.Core.Path.{ap}
 use Rattle.elements.specs.declared.tags.TagIter.TheVariants as iter
 use Rattle.start_calls.proofs.laws.Starts.{starts-kept, starts-refused, starts_as, tags-short, tags-of-dense, tags-of-node, tags-of-none, tags-of-others}

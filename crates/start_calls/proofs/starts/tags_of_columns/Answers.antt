@@ -1,5 +1,4 @@
 -- `tags_of_columns` tests both parts, and starts at them.
-use borrow.Author.Rules.{rules}
 use Rattle.fields.proofs.laws.Part.{refuted, confirmed}
 use Rattle.elements.specs.declared.tags.TagIter.TheVariants as iter
 use Rattle.start_calls.proofs.laws.Starts.{starts-kept, starts-refused, no_keys, no-vals, keys-and-vals}

@@ -1,13 +1,9 @@
 -- `fill_raw_tags` puts pair after pair, until there is no more room or none more.
-use borrow.Author.Rules.{rules}
 use Prim.Native.Nat.{◌-◌}
-use native.Mathlib.Omega.{arith}
-use lib.Dec.{lit≤}
 use Rattle.elements.specs.Tags.{raw_tags_from}
 use Rattle.elements.specs.declared.tags.TagIter.TheVariants as iter
 use Rattle.calls.specs.Filling.{Filling}
 use Rattle.tag_calls.specs.Tags.{raw_tag_item}
-use Rattle.calls.proofs.laws.Calls.{fill_begins, fill_on, fill_ends, fill_full, item_room}
 use Rattle.tag_calls.proofs.raw_tags.fill_raw_tags.Given as goal
 
 abbrev pub invariant-loop-count : goal.invariant-loop-count

@@ -1,5 +1,4 @@
 -- `next_raw_tag` is a call with room for one pair.
-use borrow.Author.Rules.{rules}
 use Rattle.tag_calls.specs.Tags.{raw_tags_call}
 use Rattle.calls.proofs.laws.Calls.{with-room, own-items}
 use Rattle.tag_calls.proofs.raw_tags.next_raw_tag.Goals as goal

@@ -1,5 +1,4 @@
 -- `next_raw_tags` is a call with room for as many pairs as fit.
-use borrow.Author.Rules.{rules}
 use Rattle.tag_calls.specs.Tags.{raw_tags_call}
 use Rattle.calls.proofs.laws.Calls.{with-room, call_counts, own-items}
 use Rattle.tag_calls.proofs.raw_tags.next_raw_tags.Goals as goal

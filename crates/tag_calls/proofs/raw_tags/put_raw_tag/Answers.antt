@@ -1,5 +1,4 @@
 -- `put_raw_tag` hands out what a step says.
-use borrow.Author.Rules.{rules}
 use mathlib.Core.Path.{refl, sym, ap, ◌∙◌}
 use Rattle.protobuf.specs.Column.{ended, cut}
 use Rattle.elements.specs.Tags.{raw_tags_from, raw_tag_said}

@@ -1,5 +1,4 @@
 -- `raw_tags_into` goes by what the slot holds, and puts the state behind what it hands out.
-use borrow.Author.Rules.{rules}
 use mathlib.Core.Path.{ap}
 use Rattle.elements.specs.Tags.{raw_tags_from}
 use Rattle.elements.specs.declared.tags.TagIter.TheVariants as iter

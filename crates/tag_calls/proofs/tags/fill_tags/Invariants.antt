@@ -1,15 +1,10 @@
 -- `fill_tags` puts run after run of tags, with a step of its own between two of them, until there is no more room or none more; that none is
 -- left is mostly seen without a step.
-use borrow.Author.Rules.{rules}
 use Prim.Native.Nat.{◌-◌}
-use native.Mathlib.Omega.{arith}
-use mathlib.Core.Path.{◌∙◌}
-use lib.Dec.{lit≤}
 use Rattle.elements.specs.Tags.{tags_from}
 use Rattle.elements.specs.declared.tags.TagIter.TheVariants as iter
 use Rattle.calls.specs.Filling.{Filling}
 use Rattle.tag_calls.specs.Tags.{tag_item}
-use Rattle.calls.proofs.laws.Calls.{fill_begins, fill_on, fill_ends, fill_ended, fill_full}
 use Rattle.tag_calls.proofs.tags.fill_tags.Given as goal
 
 abbrev pub invariant-loop-count : goal.invariant-loop-count

@@ -1,5 +1,4 @@
 -- `has_ended` tests the record, and goes by the state: of both columns, or of the pairs' one.
-use borrow.Author.Rules.{rules}
 use mathlib.Core.Bool.{true, true≢false}
 use mathlib.Core.Path.{◌≡◌, sym, ap, ◌∙◌}
 use borrow.Author.Tests.{not-false}

@@ -1,5 +1,4 @@
 -- `next_tag` is a call with room for one tag.
-use borrow.Author.Rules.{rules}
 use Rattle.tag_calls.specs.Tags.{tags_call}
 use Rattle.calls.proofs.laws.Calls.{with-room, own-items}
 use Rattle.tag_calls.proofs.tags.next_tag.Goals as goal

@@ -1,5 +1,4 @@
 -- `next_tags` is a call with room for as many tags as fit.
-use borrow.Author.Rules.{rules}
 use Rattle.tag_calls.specs.Tags.{tags_call}
 use Rattle.calls.proofs.laws.Calls.{with-room, call_counts, own-items}
 use Rattle.tag_calls.proofs.tags.next_tags.Goals as goal

@@ -1,5 +1,4 @@
 -- `put_tags` puts the numbers of the state, which are read back.
-use borrow.Author.Rules.{rules}
 use native.Mathlib.Omega.{arith}
 use Rattle.tag_calls.specs.Tags.{tag_words, tags_at}
 use Rattle.calls.proofs.laws.Slots.{state_put}

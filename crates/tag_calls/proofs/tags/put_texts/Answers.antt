@@ -1,5 +1,4 @@
 -- `put_texts` makes the tests of a lookup of each number, of a table that is inside the buffer.
-use borrow.Author.Rules.{rules}
 use Prim.Native.Nat.{◌+◌}
 use native.Mathlib.Omega.{arith}
 use mathlib.Core.Path.{sym, ◌∙◌}

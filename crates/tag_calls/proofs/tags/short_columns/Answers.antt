@@ -1,13 +1,9 @@
 -- `short_columns` puts the tag of each two words, and stops before what no words tell or has no texts.
-use borrow.Author.Rules.{rules}
-use Prim.Native.Nat.{◌-◌}
 use native.Mathlib.Omega.{arith}
-use mathlib.Core.Path.{◌≡◌, refl, ◌∙◌}
+use mathlib.Core.Path.{refl, ◌∙◌}
 use lib.Dec.{lit≤}
-use lib.ListN.{length}
 use Rattle.elements.specs.Tags.{tags_from}
 use Rattle.elements.specs.declared.tags.TagIter.TheVariants as iter
-use Rattle.calls.specs.Filling.{Run}
 use Rattle.tag_calls.specs.Tags.{tag_item}
 use Rattle.calls.proofs.laws.Calls.{run-begins, run-same, run_on}
 use Rattle.columns.proofs.laws.Short.{word_within}

@@ -1,5 +1,4 @@
 -- `short_tags` tests the record, and goes by the state.
-use borrow.Author.Rules.{rules}
 use mathlib.Core.Bool.{true}
 use mathlib.Core.Path.{◌≡◌}
 use Rattle.fields.proofs.laws.Part.{confirmed}

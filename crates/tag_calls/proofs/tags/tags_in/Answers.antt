@@ -1,5 +1,4 @@
 -- `tags_in` goes by the phase, and reads the columns of it.
-use borrow.Author.Rules.{rules}
 use mathlib.Core.Path.{ap, ◌∙◌}
 use Rattle.elements.specs.declared.tags.TagIter.TheVariants as iter
 use Rattle.tag_calls.proofs.laws.Tags.{tags-ended, tags-of-columns, tags-of-dense, tags-outside}

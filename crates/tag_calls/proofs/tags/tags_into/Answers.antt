@@ -1,5 +1,4 @@
 -- `tags_into` goes by what the slot holds, and puts the state behind what it hands out.
-use borrow.Author.Rules.{rules}
 use mathlib.Core.Path.{ap}
 use Rattle.elements.specs.declared.tags.TagIter.TheVariants as iter
 use Rattle.tag_calls.specs.Tags.{tag_words, tags_at, tag_item, tags_over, tags_in}

@@ -1,5 +1,4 @@
 -- `tags_over` reads the record, and fills where there is one.
-use borrow.Author.Rules.{rules}
 use Rattle.protobuf.proofs.laws.Read.{says}
 use Rattle.elements.specs.Tags.{tags_from}
 use Rattle.elements.specs.declared.tags.TagIter.TheVariants as iter

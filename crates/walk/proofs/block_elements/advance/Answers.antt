@@ -1,12 +1,10 @@
 -- `advance` makes one turn after the other, each to a state that has the same ahead and is nearer to the end; among plain dense nodes it takes
 -- the next one, and goes on where they have ended.
-use borrow.Author.Rules.{rules}
 use mathlib.Core.Path.{sym, ap, ◌∙◌}
 use Rattle.protobuf.proofs.laws.Read.{says}
 use Rattle.kinds.specs.Dense.{dense_said}
 use Rattle.kinds.specs.Said.{dense_step_inside}
-use Rattle.walk.specs.Moves.{left}
-use Rattle.walk.proofs.laws.Walking.{Walking, walk_begins, turn_says, turn_nearer, turn_on_lem, not-dense, dense-refuses, dense-says, dense_nearer, dense-on}
+use Rattle.walk.proofs.laws.Walking.{walk_begins, turn_says, turn_nearer, turn_on_lem, not-dense, dense-refuses, dense-says, dense_nearer, dense-on}
 use Rattle.walk.proofs.block_elements.advance.Goals as goal
 
 -- ---- among plain dense nodes

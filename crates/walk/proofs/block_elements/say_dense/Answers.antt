@@ -1,5 +1,4 @@
 -- `say_dense` is the node by the columns behind it, with its message's part.
-use borrow.Author.Rules.{rules}
 use Rattle.walk.specs.declared.block_elements.Said.TheVariants as says
 use Rattle.walk.specs.declared.state.BlockElementsIter.TheVariants as walk
 use Rattle.walk.proofs.block_elements.say_dense.Goals as goal

@@ -1,5 +1,4 @@
 -- `tested` makes the two tests, and advances where both hold.
-use borrow.Author.Rules.{rules}
 use mathlib.Core.Path.{ap, ◌∙◌}
 use Rattle.walk.specs.Walk.{element_said, element_behind}
 use Rattle.fields.proofs.laws.Part.{refuted, confirmed}

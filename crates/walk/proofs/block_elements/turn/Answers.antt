@@ -1,5 +1,4 @@
 -- `turn` goes by the state: each arm is the move of its own kind.
-use borrow.Author.Rules.{rules}
 use mathlib.Core.Path.{sym, ap, ◌∙◌}
 use Rattle.walk.specs.State.{state_inside}
 use Rattle.walk.proofs.laws.Walking.{turns_as, turns_out, turns_here}

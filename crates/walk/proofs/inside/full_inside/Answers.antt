@@ -1,5 +1,4 @@
 -- `full_inside` tests the nodes, then the columns of DenseInfo.
-use borrow.Author.Rules.{rules}
 use Rattle.fields.proofs.laws.Part.{refuted, confirmed}
 use Rattle.walk.proofs.laws.Inside.{first-fails, first_holds}
 use Rattle.walk.proofs.inside.full_inside.Goals as goal

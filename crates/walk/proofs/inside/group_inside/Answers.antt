@@ -1,5 +1,4 @@
 -- `group_inside` tests the number, then the range.
-use borrow.Author.Rules.{rules}
 use borrow.Author.Tests.{lt-ltb, le-ltb}
 use Rattle.walk.proofs.laws.Inside.{first-fails, first_holds}
 use Rattle.walk.proofs.inside.group_inside.Goals as goal

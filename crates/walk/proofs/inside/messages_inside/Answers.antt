@@ -1,5 +1,4 @@
 -- `messages_inside` tests the group, then the place.
-use borrow.Author.Rules.{rules}
 use mathlib.Core.Path.{refl}
 use Rattle.fields.proofs.laws.Part.{refuted, confirmed}
 use Rattle.walk.proofs.laws.Inside.{first-fails, first_holds}

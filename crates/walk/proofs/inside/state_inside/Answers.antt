@@ -1,5 +1,4 @@
 -- `state_inside` makes the tests of the state's kind.
-use borrow.Author.Rules.{rules}
 use mathlib.Core.Path.{sym, ap, ◌∙◌}
 use Rattle.walk.specs.State.{state_inside}
 use Rattle.walk.proofs.inside.state_inside.Goals as goal

@@ -1,5 +1,4 @@
 -- `begin_infos` moves to the nodes with the columns at their start.
-use borrow.Author.Rules.{rules}
 use mathlib.Core.Path.{ap, ◌∙◌}
 use Rattle.walk.specs.Moves.{among_full, moves_to}
 use Rattle.walk.proofs.moves.begin_infos.Goals as goal

@@ -1,5 +1,4 @@
 -- `begin_kind` moves to the state before the kind.
-use borrow.Author.Rules.{rules}
 use mathlib.Core.Path.{ap, ◌∙◌}
 use Rattle.walk.specs.Moves.{moves_to}
 use Rattle.walk.proofs.moves.begin_kind.Goals as goal

@@ -1,5 +1,4 @@
 -- `behind_kind` goes by the kind.
-use borrow.Author.Rules.{rules}
 use mathlib.Core.Path.{sym, ap, ◌∙◌}
 use Rattle.walk.specs.Moves.{behind_kind}
 use Rattle.walk.proofs.moves.behind_kind.Goals as goal

@@ -1,5 +1,4 @@
 -- `enter` goes by what stands at the group's number.
-use borrow.Author.Rules.{rules}
 use mathlib.Core.Path.{sym, ap, ◌∙◌}
 use Rattle.protobuf.proofs.laws.Read.{says}
 use Rattle.walk.specs.Moves.{entry_ahead, entry_stands}

@@ -1,5 +1,4 @@
 -- `enter_dense` views the dense message and starts its columns; in a full walk it goes on to the DenseInfo.
-use borrow.Author.Rules.{rules}
 use Rattle.protobuf.proofs.laws.Read.{says}
 use Rattle.views.specs.DenseNodes.{parsed_dense_nodes}
 use Rattle.walk.proofs.laws.Ahead.{behind-refused}

@@ -1,5 +1,4 @@
 -- `enter_infos` views the DenseInfo and starts its columns.
-use borrow.Author.Rules.{rules}
 use Rattle.protobuf.proofs.laws.Read.{says}
 use Rattle.views.specs.DenseInfo.{parsed_dense_info}
 use Rattle.walk.proofs.laws.Ahead.{behind-refused}

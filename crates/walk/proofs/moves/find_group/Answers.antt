@@ -1,5 +1,4 @@
 -- `find_group` takes one group: its entry, and the dense pass over it.
-use borrow.Author.Rules.{rules}
 use borrow.Author.Tests.{eq-eqb}
 use mathlib.Core.Path.{refl, sym, ◌∙◌}
 use mathlib.Core.Bool.{false}

@@ -1,5 +1,4 @@
 -- `start_infos` starts each column at its part.
-use borrow.Author.Rules.{rules}
 use Rattle.walk.proofs.moves.start_infos.Goals as goal
 
 pub returns : goal.returns

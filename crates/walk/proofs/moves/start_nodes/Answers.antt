@@ -1,5 +1,4 @@
 -- `start_nodes` starts each column at its part.
-use borrow.Author.Rules.{rules}
 use Rattle.walk.proofs.moves.start_nodes.Goals as goal
 
 pub returns : goal.returns

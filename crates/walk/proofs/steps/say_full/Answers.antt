@@ -1,5 +1,4 @@
 -- `say_full` is the node by the columns behind it, with its message's part.
-use borrow.Author.Rules.{rules}
 use mathlib.Core.Path.{◌∙◌}
 use Rattle.walk.specs.Moves.{among_full, moves_with}
 use Rattle.walk.proofs.steps.say_full.Goals as goal

@@ -1,5 +1,4 @@
 -- `walk_full_dense` says the next node, or moves on to the group's nodes where there is none.
-use borrow.Author.Rules.{rules}
 use mathlib.Core.Path.{sym, ap, ◌∙◌}
 use Rattle.protobuf.proofs.laws.Read.{says}
 use Rattle.kinds.specs.Said.{full_dense_said, full_step_inside}

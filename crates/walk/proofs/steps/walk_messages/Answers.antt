@@ -1,5 +1,4 @@
 -- `walk_messages` says the next message, or moves on to the next kind where there is none.
-use borrow.Author.Rules.{rules}
 use native.Mathlib.Omega.{arith}
 use mathlib.Core.Path.{sym, ap, ◌∙◌}
 use Rattle.protobuf.proofs.laws.Read.{says}

@@ -1,15 +1,8 @@
 -- `fill_messages` puts message after message, until there is no more room, no next message, or one that its view refuses.
-use borrow.Author.Rules.{rules}
 use Prim.Native.Nat.{◌-◌}
-use native.Mathlib.Omega.{arith}
-use mathlib.Core.Path.{refl, ap, ◌∙◌}
-use lib.ListN.{length}
-use Rattle.fields.proofs.laws.Part.{refuted, confirmed}
 use Rattle.walk.specs.declared.state.BlockElementsIter.TheVariants as walk
 use Rattle.kinds.specs.Said.{at_place}
-use Rattle.kinds.proofs.laws.Loose.{Finds, finds}
-use Rattle.walk_calls.proofs.laws.Fills.{Elements, elements_begin, element-room, elements-on, message-onward, fills_same}
-use Rattle.walk_calls.proofs.laws.Messages.{message-there, none-there}
+use Rattle.walk_calls.proofs.laws.Fills.{Elements}
 use Rattle.walk_calls.proofs.messages.fill_messages.Given as goal
 
 abbrev pub invariant-loop-count : goal.invariant-loop-count

@@ -1,5 +1,4 @@
 -- `put_message` goes by the kind.
-use borrow.Author.Rules.{rules}
 use Rattle.walk_calls.proofs.laws.Messages.{put_as}
 use Rattle.walk_calls.proofs.messages.put_message.Goals as goal
 

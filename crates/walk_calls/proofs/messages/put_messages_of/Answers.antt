@@ -1,5 +1,4 @@
 -- `put_messages_of` puts nothing where record or state is outside, and else what `fill_messages` does.
-use borrow.Author.Rules.{rules}
 use borrow.Author.Tests.{le-leb}
 use Rattle.fields.proofs.laws.Part.{confirmed}
 use Rattle.columns.proofs.laws.Inside.{also-true}

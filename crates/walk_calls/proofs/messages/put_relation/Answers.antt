@@ -1,5 +1,4 @@
 -- `put_relation` puts what the view keeps, with the Info's part that the walk shows.
-use borrow.Author.Rules.{rules}
 use native.Mathlib.Omega.{arith}
 use mathlib.Core.Path.{sym, ap, ◌∙◌}
 use Rattle.protobuf.proofs.laws.Read.{says}

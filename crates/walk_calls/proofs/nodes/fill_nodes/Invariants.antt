@@ -1,10 +1,8 @@
 -- `fill_nodes` puts node after node, until there is no more room or no next node.
-use borrow.Author.Rules.{rules}
 use Prim.Native.Nat.{◌-◌}
-use native.Mathlib.Omega.{arith}
 use Rattle.walk.specs.declared.state.BlockElementsIter.TheVariants as walk
 use Rattle.walk_calls.specs.Fills.{at_columns}
-use Rattle.walk_calls.proofs.laws.Fills.{Elements, elements_begin, elements-on, node-onward}
+use Rattle.walk_calls.proofs.laws.Fills.{Elements}
 use Rattle.walk_calls.proofs.nodes.fill_nodes.Given as goal
 
 abbrev pub invariant-loop-count : goal.invariant-loop-count

@@ -1,5 +1,4 @@
 -- `put_node` puts the ten numbers of a plain dense node.
-use borrow.Author.Rules.{rules}
 use mir.Syntax.{w64}
 use Rattle.answers.proofs.laws.Signed.{as_word}
 use Rattle.walk_calls.proofs.nodes.put_node.Goals as goal

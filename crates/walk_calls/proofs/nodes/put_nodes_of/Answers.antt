@@ -1,5 +1,4 @@
 -- `put_nodes_of` puts nothing where record or state is outside, and else what `fill_nodes` does.
-use borrow.Author.Rules.{rules}
 use Rattle.fields.proofs.laws.Part.{confirmed}
 use Rattle.walk.specs.declared.state.BlockElementsIter.TheVariants as walk
 use Rattle.walk.specs.Walk.{elements_from}

@@ -1,5 +1,4 @@
 -- `block_into` goes by the slot's phase.
-use borrow.Author.Rules.{rules}
 use mathlib.Core.Path.{refl, sym, ap, ◌∙◌}
 use Rattle.walk.specs.declared.state.BlockElementsIter.TheVariants as walk
 use Rattle.walk.specs.Walk.{elements_from}

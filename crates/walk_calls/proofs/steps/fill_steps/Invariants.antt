@@ -1,8 +1,6 @@
 -- `fill_steps` puts element after element, until there is no more room or none more.
-use borrow.Author.Rules.{rules}
 use Prim.Native.Nat.{◌-◌}
-use native.Mathlib.Omega.{arith}
-use Rattle.walk_calls.proofs.laws.Fills.{Goes, goes_begin, goes_on, goes-room, goes-ends, goes-full}
+use Rattle.walk_calls.proofs.laws.Fills.{Goes}
 use Rattle.walk_calls.proofs.steps.fill_steps.Given as goal
 
 abbrev pub invariant-loop-count : goal.invariant-loop-count

@@ -1,5 +1,4 @@
 -- `messages_into` hands out what was put where that takes the room whole, and goes on by steps where there is more.
-use borrow.Author.Rules.{rules}
 use native.Mathlib.Omega.{arith}
 use mathlib.Core.Path.{refl}
 use Rattle.walk.specs.declared.state.BlockElementsIter.TheVariants as walk

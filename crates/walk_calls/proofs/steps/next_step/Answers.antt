@@ -1,5 +1,4 @@
 -- `next_step` is a call with room for one element.
-use borrow.Author.Rules.{rules}
 use Rattle.walk_calls.specs.Steps.{walk_call}
 use Rattle.walk_calls.proofs.laws.Steps.{elements_in}
 use Rattle.calls.proofs.laws.Calls.{with-room}

@@ -1,5 +1,4 @@
 -- `next_steps` is a call with room for as many elements as fit.
-use borrow.Author.Rules.{rules}
 use Rattle.walk_calls.specs.Steps.{walk_call}
 use Rattle.walk_calls.proofs.laws.Steps.{elements_in}
 use Rattle.calls.proofs.laws.Calls.{with-room, call_counts}

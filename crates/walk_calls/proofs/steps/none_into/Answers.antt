@@ -1,5 +1,4 @@
 -- `none_into` goes by the slot's phase.
-use borrow.Author.Rules.{rules}
 use Rattle.walk_calls.proofs.laws.Steps.{none-ended, none-put}
 use Rattle.walk_calls.proofs.steps.none_into.Goals as goal
 

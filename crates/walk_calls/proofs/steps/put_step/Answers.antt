@@ -1,5 +1,4 @@
 -- `put_step` hands out what a step says.
-use borrow.Author.Rules.{rules}
 use mathlib.Core.Path.{refl}
 use Rattle.protobuf.specs.Column.{ended, cut}
 use Rattle.walk.specs.Walk.{elements_from}

@@ -1,5 +1,4 @@
 -- `start_walk` puts the fresh state where there is room for any.
-use borrow.Author.Rules.{rules}
 use mathlib.Core.Path.{sym, ap, ◌∙◌}
 use Rattle.walk.specs.Walk.{fresh}
 use Rattle.walk_calls.proofs.laws.Steps.{start-short, start-put}

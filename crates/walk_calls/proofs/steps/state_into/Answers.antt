@@ -1,5 +1,4 @@
 -- `state_into` puts the state behind what the steps hand out.
-use borrow.Author.Rules.{rules}
 use Rattle.walk_calls.proofs.steps.state_into.Goals as goal
 
 pub returns : goal.returns

@@ -1,5 +1,4 @@
 -- `steps_into` goes by whether there is a record.
-use borrow.Author.Rules.{rules}
 use Rattle.protobuf.proofs.laws.Read.{says}
 use Rattle.answers.specs.Record.{record_of}
 use Rattle.walk.specs.declared.state.BlockElementsIter.TheVariants as walk

@@ -1,5 +1,4 @@
 -- `column_in` reads the two numbers.
-use borrow.Author.Rules.{rules}
 use Rattle.walk_slots.proofs.slot.column_in.Goals as goal
 
 pub returns : goal.returns

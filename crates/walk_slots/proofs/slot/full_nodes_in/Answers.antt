@@ -1,5 +1,4 @@
 -- `full_nodes_in` reads the nodes and the infos.
-use borrow.Author.Rules.{rules}
 use Rattle.walk_slots.proofs.slot.full_nodes_in.Goals as goal
 
 pub returns : goal.returns

@@ -1,5 +1,4 @@
 -- `infos_in` reads the columns, each at its place.
-use borrow.Author.Rules.{rules}
 use Rattle.walk_slots.proofs.slot.infos_in.Goals as goal
 
 pub returns : goal.returns

@@ -1,5 +1,4 @@
 -- `infos_numbers` gives `infosWords`, number by number; a sum is passed as its bits.
-use borrow.Author.Rules.{rules}
 use mir.Syntax.{w32, w64}
 use Rattle.answers.proofs.laws.Signed.{as_word}
 use Rattle.walk_slots.specs.Held.{InfosHeld}

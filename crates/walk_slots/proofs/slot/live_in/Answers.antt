@@ -1,5 +1,4 @@
 -- `live_in` goes by the phase.
-use borrow.Author.Rules.{rules}
 use mathlib.Core.Path.{ap, ◌∙◌}
 use Rattle.kinds.specs.declared.state.Loose.TheVariants as kind
 use Rattle.walk.specs.declared.state.BlockElementsIter.TheVariants as walk

@@ -1,5 +1,4 @@
 -- `messages_in` reads the group's range and the place in it.
-use borrow.Author.Rules.{rules}
 use Rattle.walk.specs.declared.state.BlockElementsIter.TheVariants as walk
 use Rattle.walk_slots.proofs.slot.messages_in.Goals as goal
 

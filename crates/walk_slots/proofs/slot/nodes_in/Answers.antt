@@ -1,5 +1,4 @@
 -- `nodes_in` reads the ranges and the columns, each at its place.
-use borrow.Author.Rules.{rules}
 use Rattle.walk_slots.proofs.slot.nodes_in.Goals as goal
 
 pub returns : goal.returns

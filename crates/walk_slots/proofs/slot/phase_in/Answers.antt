@@ -1,5 +1,4 @@
 -- `phase_in` makes the tests of `walkAt` in its order.
-use borrow.Author.Rules.{rules}
 use mathlib.Core.Path.{ap, ◌∙◌}
 use mathlib.Core.Bool.{true, false}
 use Rattle.walk_slots.specs.Slot.{walk_by}

@@ -1,5 +1,4 @@
 -- `put_full` tests the room, puts the 18 numbers of the nodes, and the infos' 16 behind them.
-use borrow.Author.Rules.{rules}
 use mathlib.Core.Path.{ap, ◌∙◌}
 use mathlib.Core.List.{[], ◌∷◌}
 use Rattle.answers.specs.Words.{filled, filled_at}

@@ -1,5 +1,4 @@
 -- `put_messages` puts the phase of the kind, the flag, the group's range and the place.
-use borrow.Author.Rules.{rules}
 use Prim.Native.Nat.{ℕ}
 use mathlib.Core.Path.{ap, ◌∙◌}
 use mathlib.Core.List.{[], ◌∷◌}

@@ -1,5 +1,4 @@
 -- `put_nodes` puts the 18 numbers of the nodes.
-use borrow.Author.Rules.{rules}
 use mathlib.Core.Path.{ap, ◌∙◌}
 use Rattle.answers.specs.Words.{filled}
 use Rattle.walk_slots.proofs.laws.Back.{nodes-put}

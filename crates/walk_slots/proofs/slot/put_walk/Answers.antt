@@ -1,5 +1,4 @@
 -- `put_walk` goes by the state.
-use borrow.Author.Rules.{rules}
 use Rattle.walk_slots.proofs.laws.Back.{ended-put, between_put, put_of}
 use Rattle.walk_slots.proofs.slot.put_walk.Goals as goal
 

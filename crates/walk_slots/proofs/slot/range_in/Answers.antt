@@ -1,5 +1,4 @@
 -- `range_in` reads the three numbers.
-use borrow.Author.Rules.{rules}
 use Rattle.walk_slots.proofs.slot.range_in.Goals as goal
 
 pub returns : goal.returns

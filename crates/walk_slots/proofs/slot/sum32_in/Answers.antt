@@ -1,5 +1,4 @@
 -- `sum32_in` reads the column, and the sum behind it.
-use borrow.Author.Rules.{rules}
 use mathlib.Core.Path.{ap, ◌∙◌}
 use mir.Syntax.{w32}
 use Rattle.numbers.specs.Signed.{twos}

@@ -1,5 +1,4 @@
 -- `walk_in` goes by what the first numbers tell, and reads the columns of dense nodes.
-use borrow.Author.Rules.{rules}
 use mathlib.Core.Path.{sym, ap, ◌∙◌}
 use Rattle.walk.specs.declared.state.BlockElementsIter.TheVariants as walk
 use Rattle.walk_slots.specs.Slot.{walk_by}

@@ -1,5 +1,4 @@
 -- `next` says what `step` says.
-use borrow.Author.Rules.{rules}
 use Rattle.walk.proofs.state.BlockElementsIter.next.Goals as goal
 
 pub returns : goal.returns

@@ -1,5 +1,4 @@
 -- `step` says ended of an ended walk, whatever the buffer is, and else tests and advances.
-use borrow.Author.Rules.{rules}
 use mathlib.Core.Path.{sym, ap, ◌∙◌}
 use Rattle.walk.specs.Walk.{elements_from}
 use Rattle.walk.proofs.laws.Walking.{not-ended}
