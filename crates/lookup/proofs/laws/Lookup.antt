@@ -7,7 +7,7 @@ use mathlib.Core.Bool.{Bool, true, false}
 use native.Mathlib.Omega.{arith}
 use lib.ListN.{length}
 use lib.Dec.{leb, ltb}
-use borrow.Author.Tests.{leb-true, le-leb, lt-leb, lt-ltb, le-ltb}
+use borrow.Author.Tests.{leb-true, leb-false, le-leb, lt-leb, lt-ltb, le-ltb}
 use Rattle.protobuf.specs.declared.refusal.Refusal.TheVariants.{Outside}
 use Rattle.numbers.specs.Choose.{choose}
 use Rattle.numbers.proofs.laws.Choose.{same_test}
@@ -50,6 +50,14 @@ module _ (s : List ℕ) (r : WireBlock) (index : ℕ) where
   pub get_past-table : length s < r.stringtable + 8 * index + 8 → got.None ≡ get_at s r index
   unfolding get_at
   get_past-table h = simp (lt-leb _ _ h) (second-fails (ltb index r.strings) _ _)
+
+  -- the code's test by a difference: the entry's bytes are inside where it holds, and only there
+  module _ (some : 8 ≤ length s) where
+    pub entry-inside : leb (r.stringtable + 8 * index) (length s - 8) ≡ true → r.stringtable + 8 * index + 8 ≤ length s
+    entry-inside e = let within = leb-true _ _ e in omega (arith, within, some)
+
+    pub entry-outside : leb (r.stringtable + 8 * index) (length s - 8) ≡ false → length s < r.stringtable + 8 * index + 8
+    entry-outside e = let past = leb-false _ _ e in omega (arith, past, some)
 
   module _ (below : index < r.strings) (room : r.stringtable + 8 * index + 8 ≤ length s) where
     get_entry : answered got.Text (got.Refused Outside) s (entry_at s (r.stringtable + 8 * index)) ≡ get_at s r index

@@ -1,34 +1,24 @@
 -- `get` makes the tests of `get_at` by differences, and reads the entry where its bytes are inside.
 use native.Mathlib.Omega.{arith}
-use Prim.Native.Nat.{◌+◌, ◌-◌, ◌*◌, ◌≤◌}
 use mathlib.Core.Path.{sym, ◌∙◌}
-use lib.ListN.{length}
-use borrow.Author.Tests.{leb-true, leb-false}
 use Rattle.fields.proofs.laws.Part.{refuted, confirmed}
-use Rattle.lookup.proofs.laws.Lookup.{get_past-count, get_past-table, get_text, get_refused}
+use Rattle.lookup.proofs.laws.Lookup.{get_past-count, get_past-table, get_text, get_refused, entry-inside, entry-outside}
 use Rattle.lookup.proofs.laws.Scanned.{get_clauses}
 use Rattle.lookup.proofs.by_number.get.Goals as goal
 
 pub returns-then-not-table_fits : goal.returns-then-not-table_fits
 returns-then-not-table_fits c =
-    let a = c.args in
-    let past = leb-false (a.block.stringtable + 8 * a.index) (length a.buffer.now - 8) (refuted c.table_fits.ensures c.if-not-table_fits.true-raw) in
-    let said = get_clauses _ _ _ (get_past-table _ _ _ (omega arith)) in record { answer = said.0; scanned = said.1 }
+    let past = entry-outside c.args.buffer.now c.args.block c.args.index (omega arith) (refuted c.table_fits.ensures c.if-not-table_fits.true-raw) in
+    let said = get_clauses _ _ _ (get_past-table _ _ _ past) in record { answer = said.0; scanned = said.1 }
 
 pub returns-then-part_fits : goal.returns-then-part_fits
 returns-then-part_fits c =
-    let room : let a = c.args in a.block.stringtable + 8 * a.index + 8 ≤ length a.buffer.now =
-    let a = c.args in
-    let within = leb-true (a.block.stringtable + 8 * a.index) (length a.buffer.now - 8) (confirmed c.table_fits.ensures c.if-not-table_fits.false-raw) in
-    omega arith in
+    let room = entry-inside c.args.buffer.now c.args.block c.args.index (omega arith) (confirmed c.table_fits.ensures c.if-not-table_fits.false-raw) in
     let said = get_clauses _ _ _ (get_text _ _ _ (omega arith) room c.entry_at-part.ensures (sym c.part_fits.ensures ∙ c.if-part_fits.true)) in record { answer = said.0; scanned = said.1 }
 
 pub returns-else-part_fits : goal.returns-else-part_fits
 returns-else-part_fits c =
-    let room : let a = c.args in a.block.stringtable + 8 * a.index + 8 ≤ length a.buffer.now =
-    let a = c.args in
-    let within = leb-true (a.block.stringtable + 8 * a.index) (length a.buffer.now - 8) (confirmed c.table_fits.ensures c.if-not-table_fits.false-raw) in
-    omega arith in
+    let room = entry-inside c.args.buffer.now c.args.block c.args.index (omega arith) (confirmed c.table_fits.ensures c.if-not-table_fits.false-raw) in
     let said = get_clauses _ _ _ (get_refused _ _ _ (omega arith) room c.entry_at-part.ensures (sym c.part_fits.ensures ∙ c.if-part_fits.false)) in record { answer = said.0; scanned = said.1 }
 
 pub returns-then-block-index : goal.returns-then-block-index
@@ -38,22 +28,14 @@ pub returns-then-n-lt8 : goal.returns-then-n-lt8
 returns-then-n-lt8 c = let said = get_clauses _ _ _ (get_past-table _ _ _ (omega arith)) in record { answer = said.0; scanned = said.1 }
 
 pub overflow_mul-index : goal.overflow_mul-index
-overflow_mul-index c = let room : let a = c.args in a.block.stringtable + 8 * a.index + 8 ≤ length a.buffer.now =
-    let a = c.args in
-    let within = leb-true (a.block.stringtable + 8 * a.index) (length a.buffer.now - 8) (confirmed c.table_fits.ensures c.if-not-table_fits.false-raw) in
-    omega arith in
+overflow_mul-index c =
+    let room = entry-inside c.args.buffer.now c.args.block c.args.index (omega arith) (confirmed c.table_fits.ensures c.if-not-table_fits.false-raw) in
     omega (arith, room)
 
 pub overflow_add-table : goal.overflow_add-table
-overflow_add-table c = let room : let a = c.args in a.block.stringtable + 8 * a.index + 8 ≤ length a.buffer.now =
-    let a = c.args in
-    let within = leb-true (a.block.stringtable + 8 * a.index) (length a.buffer.now - 8) (confirmed c.table_fits.ensures c.if-not-table_fits.false-raw) in
-    omega arith in
+overflow_add-table c =
+    let room = entry-inside c.args.buffer.now c.args.block c.args.index (omega arith) (confirmed c.table_fits.ensures c.if-not-table_fits.false-raw) in
     omega (arith, room)
 
 pub entry_at-part-requires : goal.entry_at-part-requires
-entry_at-part-requires c = let room : let a = c.args in a.block.stringtable + 8 * a.index + 8 ≤ length a.buffer.now =
-    let a = c.args in
-    let within = leb-true (a.block.stringtable + 8 * a.index) (length a.buffer.now - 8) (confirmed c.table_fits.ensures c.if-not-table_fits.false-raw) in
-    omega arith in
-    room
+entry_at-part-requires c = entry-inside c.args.buffer.now c.args.block c.args.index (omega arith) (confirmed c.table_fits.ensures c.if-not-table_fits.false-raw)
