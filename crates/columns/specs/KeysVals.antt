@@ -1,5 +1,5 @@
 -- keys_vals in step with the nodes: what stands next among one node's pairs, and the column behind all of them. The pairs of a node
--- (`takePairs`, block) are the fold of this (`laws/KeysVals`).
+-- (`take_pairs`, block) are the fold of this (`laws/KeysVals`).
 use Rattle.std.specs.Prelude.{ℕ, zero, suc, List}
 use Rattle.protobuf.specs.declared.refusal.Refusal.{Refusal}
 use Rattle.protobuf.specs.declared.refusal.Refusal.TheVariants.{VarintCut}

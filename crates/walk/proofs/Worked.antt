@@ -115,7 +115,7 @@ walked first second info =
 abbrev only : Bool → List ℕ → ℕ → Column Found
 only full group len = elements_from (group ++ entry 0 len) (place len 1 len) (fresh full)
 
--- the way of `oneWay` and another group, by an entry of its own
+-- the way of `one_way` and another group, by an entry of its own
 abbrev behind_a_way : List ℕ → ℕ → List ℕ → Column Found
 behind_a_way group n second = elements_from (one_way ++ group ++ entry 0 4 ++ second) (place n 2 n) (fresh false)
 

@@ -1,4 +1,4 @@
--- The laws of keys_vals in step with the nodes: the next tag by the next value, and `takePairs` as the fold of `nextTag`.
+-- The laws of keys_vals in step with the nodes: the next tag by the next value, and `take_pairs` as the fold of `next_tag`.
 use Prim.Native.Nat.{ℕ, zero, suc, ◌<◌}
 use mathlib.Core.Path.{◌≡◌, refl, sym, ap, ◌∙◌}
 use mathlib.Core.List.{[]}

@@ -1,4 +1,4 @@
--- Laws of `blockType`: by the length, and by the two parts of the first byte.
+-- Laws of `block_type`: by the length, and by the two parts of the first byte.
 use Prim.Native.Nat.{ℕ, zero, suc, ◌/◌, ◌%◌}
 use mathlib.Core.Path.{◌≡◌, refl, ap, ◌∙◌}
 use mathlib.Core.List.{List, [], ◌∷◌}

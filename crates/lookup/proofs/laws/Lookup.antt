@@ -1,4 +1,4 @@
--- Laws of lookups through the tables: a test by a difference, which cannot wrap, is the one by a sum; and what `get_at` and `groupAt` answer
+-- Laws of lookups through the tables: a test by a difference, which cannot wrap, is the one by a sum; and what `get_at` and `group_at` answer
 -- under each test.
 use Prim.Native.Nat.{ℕ, ◌+◌, ◌-◌, ◌*◌, ◌/◌, ◌≤◌, ◌<◌}
 use mathlib.Core.Path.{◌≡◌, refl, sym, ap, ◌∙◌}

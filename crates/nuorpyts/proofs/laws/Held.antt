@@ -1,4 +1,4 @@
--- An element that shows one of a listing starts its own sub-walks by its bytes: `tags-begin`, `refs-begin` and `members-begin`. Of its parts
+-- An element that shows one of a listing starts its own sub-walks by its bytes: `tags_begin`, `refs_begin` and `members_begin`. Of its parts
 -- those that are read stand in the buffer, so that 8 bytes hold their numbers; numbers of others are cut there, which makes no difference.
 use Prim.Native.Nat.{ℕ, ◌+◌, ◌%◌, ◌^◌, ◌≤◌, ◌<◌}
 use native.Mathlib.Omega.{arith}

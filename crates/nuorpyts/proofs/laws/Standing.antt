@@ -1,5 +1,5 @@
 -- Where the elements of an answer stand in its slice: element k in the 208 bytes from place 208 k on, which are then those that its sub-walks
--- start at (`element-stands`). An answer has no more elements than its slice has room for (`few-singly`, `few-in-batches`).
+-- start at (`element-stands`). An answer has no more elements than its slice has room for (`few_singly`, `few_in_batches`).
 use Prim.Native.Nat.{ℕ, zero, suc, ◌+◌, ◌*◌, ◌/◌, ◌≤◌}
 use native.Mathlib.Omega.{arith}
 use mathlib.Core.Path.{◌≡◌, refl, ap, ◌∙◌}

@@ -1,5 +1,5 @@
 -- What `put_element` wrote starts the element's own sub-walks: `refs-started`, `tags-started`, `members-started`. They speak of bytes that
--- begin with the element; those of an element in a batch do (`element-in-batch`).
+-- begin with the element; those of an element in a batch do (`element_in_batch`).
 use Prim.Native.Nat.{ℕ, ◌+◌, ◌-◌, ◌*◌, ◌^◌, ◌≤◌, ◌<◌}
 use native.Mathlib.Omega.{arith}
 use mathlib.Core.Path.{◌≡◌, refl, sym, ap, ◌∙◌}

@@ -1,4 +1,4 @@
--- The law of walks, `walk-lists` at the end: on the buffer and the record that a scan left of an accepted block, the walk at its start has the
+-- The law of walks, `walk_lists` at the end: on the buffer and the record that a scan left of an accepted block, the walk at its start has the
 -- listing's elements ahead, each showing what the listing says of it, and then the end. It holds because both read the same messages in the same
 -- order, the walk at their places in the buffer and the listing in the block's own bytes (`laws/Place`, `laws/Texts`), and because acceptance has
 -- read whole, with equal counts, every column that the walk reads in step (`laws/Accepted`, `laws/Whole`), so that the walk refuses nothing.

@@ -1,4 +1,4 @@
--- The law of full walks, `full-walk-lists` at the end: on what a scan left of an accepted block, the full walk at its start has the elements of the
+-- The law of full walks, `full_walk_lists` at the end: on what a scan left of an accepted block, the full walk at its start has the elements of the
 -- full listing ahead, each showing what the listing says of it and its metadata, and then the end. It holds because elements and metadata are
 -- handed out by one walk (`laws/Block`), each message showing both (`laws/Loose`, `laws/Dense`, `laws/Told`).
 use Prim.Native.Nat.{ℕ, suc}

@@ -1,4 +1,4 @@
--- `iter_numbers` gives `iterWords`, by the state's case.
+-- `iter_numbers` gives `iter_words`, by the state's case.
 use mathlib.Core.Path.{sym, ap}
 use Rattle.answers.specs.Group.{iter_words}
 use Rattle.answers.proofs.group.iter_numbers.Goals as goal

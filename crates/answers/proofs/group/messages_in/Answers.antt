@@ -1,4 +1,4 @@
--- `messages_in` makes the tests of `messagesIn` in its order, and reads the place where all of them hold.
+-- `messages_in` makes the tests of `messages_in` in its order, and reads the place where all of them hold.
 use mathlib.Core.Path.{ap, ◌∙◌}
 use native.Mathlib.Omega.{arith}
 use Rattle.answers.proofs.laws.Group.{state_short, state_ended, no-phase, no_field, state_at_lem}

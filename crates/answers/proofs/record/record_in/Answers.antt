@@ -1,4 +1,4 @@
--- `record_in` makes the tests of `recordIn` in its order, and reads the nine numbers where all of them hold.
+-- `record_in` makes the tests of `record_in` in its order, and reads the nine numbers where all of them hold.
 use mathlib.Core.Path.{ap, ◌∙◌}
 use mir.Syntax.{w32, w64}
 use Rattle.numbers.specs.Signed.{twos}

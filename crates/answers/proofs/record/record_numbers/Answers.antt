@@ -1,4 +1,4 @@
--- `record_numbers` gives `recordWords`, number by number; a signed one is passed as its bits.
+-- `record_numbers` gives `record_words`, number by number; a signed one is passed as its bits.
 use mir.Syntax.{w32, w64}
 use Rattle.answers.proofs.laws.Signed.{as_word}
 use Rattle.answers.proofs.record.record_numbers.Goals as goal

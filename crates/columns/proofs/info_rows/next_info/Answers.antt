@@ -1,4 +1,4 @@
--- `next_info` is `nextInfo`: each column that has a value leads on to the next, and the last three are `next_user`'s. A column that is read
+-- `next_info` is `next_info`: each column that has a value leads on to the next, and the last three are `next_user`'s. A column that is read
 -- stays inside the bytes.
 use mathlib.Core.Path.{refl, sym, ◌∙◌}
 use Rattle.columns.proofs.laws.InStep.{stepped}

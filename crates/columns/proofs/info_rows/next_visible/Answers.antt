@@ -1,4 +1,4 @@
--- `next_visible` is `visibleInfo` by the cases of its one step, which leaves its column inside the bytes.
+-- `next_visible` is `visible_info` by the cases of its one step, which leaves its column inside the bytes.
 use mir.Syntax.{w32}
 use mathlib.Core.Path.{refl, sym, ◌∙◌}
 use Rattle.numbers.proofs.laws.Machine.{returned}

@@ -1,4 +1,4 @@
--- `next_dense_tag` is `nextTag` by the three cases of a step, where a key that is not 0 has a value. Its next state is a step's, or at the end
+-- `next_dense_tag` is `next_tag` by the three cases of a step, where a key that is not 0 has a value. Its next state is a step's, or at the end
 -- the one that it was given.
 use mathlib.Core.Path.{refl, sym, ap, ◌∙◌}
 use Rattle.columns.specs.KeysVals.{next_tag}

@@ -1,4 +1,4 @@
--- `member_id` makes the cases of `idBy`: a type is held as its bits, which are 0, 1 or 2 where it is.
+-- `member_id` makes the cases of `id_by`: a type is held as its bits, which are 0, 1 or 2 where it is.
 use native.Mathlib.Omega.{arith}
 use mathlib.Core.Path.{refl, ap, ◌∙◌}
 use lib.IntN.{pos}

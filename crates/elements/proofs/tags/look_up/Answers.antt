@@ -1,4 +1,4 @@
--- `look_up` makes the cases of `tagThen`.
+-- `look_up` makes the cases of `tag_then`.
 use mathlib.Core.Path.{refl}
 use Rattle.elements.proofs.laws.Tags.{looked_up}
 use Rattle.elements.proofs.tags.look_up.Goals as goal

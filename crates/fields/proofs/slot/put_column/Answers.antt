@@ -1,4 +1,4 @@
--- `put_column` makes the two tests of `columnPart`.
+-- `put_column` makes the two tests of `column_part`.
 use borrow.Author.Tests.{eq-eqb, ne_eqb}
 use Rattle.fields.specs.Outcome.{each}
 use Rattle.fields.specs.View.{put, column_part}

@@ -1,4 +1,4 @@
--- `put_message` makes the two tests of `infoPart`.
+-- `put_message` makes the two tests of `info_part`.
 use borrow.Author.Tests.{eq-eqb, ne_eqb}
 use Rattle.fields.specs.Outcome.{each}
 use Rattle.fields.specs.View.{put, info_part}

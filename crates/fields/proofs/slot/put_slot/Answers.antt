@@ -1,4 +1,4 @@
--- `put_slot` is `putBy`, case by case.
+-- `put_slot` is `put_by`, case by case.
 use Rattle.fields.specs.View.{put}
 use Rattle.fields.proofs.slot.put_slot.Goals as goal
 

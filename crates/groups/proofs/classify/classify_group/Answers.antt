@@ -1,4 +1,4 @@
--- `classify_group` asks of the first byte what `blockType` does.
+-- `classify_group` asks of the first byte what `block_type` does.
 use mathlib.Core.Path.{refl, sym, ◌∙◌}
 use Rattle.groups.proofs.laws.Classify.{of_none, of-wire, of_field, other-field}
 use Rattle.groups.proofs.classify.classify_group.Goals as goal

@@ -1,4 +1,4 @@
--- `first_part` is `firstPart`: each turn looks at the field at the place where the loop stands, and passes over what is no such message.
+-- `first_part` is `first_part`: each turn looks at the field at the place where the loop stands, and passes over what is no such message.
 use mathlib.Core.Path.{sym, ◌∙◌}
 use Rattle.message.specs.Answers.{field_of}
 use Rattle.protobuf.proofs.laws.Read.{says}

@@ -1,4 +1,4 @@
--- `first_part` is `firstPart`: each turn looks at the field at the place where the loop stands, and passes over what is no such message.
+-- `first_part` is `first_part`: each turn looks at the field at the place where the loop stands, and passes over what is no such message.
 use Prim.Native.Nat.{◌-◌}
 use lib.ListN.{length}
 use Rattle.groups.proofs.laws.Group.{Seeking}

@@ -1,4 +1,4 @@
--- `spoilt_dense` makes the two tests of `denseTag`, before it gives the payload's refusal.
+-- `spoilt_dense` makes the two tests of `dense_tag`, before it gives the payload's refusal.
 use Rattle.groups.proofs.laws.Group.{not-dense}
 use Rattle.groups.proofs.group.spoilt_dense.Goals as goal
 

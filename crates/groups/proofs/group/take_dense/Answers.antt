@@ -1,4 +1,4 @@
--- `take_dense` makes the two tests of `denseField`: the dense field has the tag 18, and a second one is refused.
+-- `take_dense` makes the two tests of `dense_field`: the dense field has the tag 18, and a second one is refused.
 use Rattle.groups.proofs.laws.Group.{not-dense}
 use Rattle.groups.proofs.group.take_dense.Goals as goal
 

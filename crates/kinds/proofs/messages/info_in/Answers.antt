@@ -1,4 +1,4 @@
--- `info_in` is `infoIn`, by whether the walk is full.
+-- `info_in` is `info_in`, by whether the walk is full.
 use mathlib.Core.Path.{sym, ap}
 use Rattle.kinds.specs.Loose.{info_in}
 use Rattle.kinds.proofs.messages.info_in.Goals as goal

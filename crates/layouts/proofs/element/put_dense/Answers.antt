@@ -1,4 +1,4 @@
--- `put_dense` gives `denseNodeWords`, the metadata behind the other numbers.
+-- `put_dense` gives `dense_node_words`, the metadata behind the other numbers.
 use native.Mathlib.Omega.{arith}
 use mathlib.Core.List.{[], ◌∷◌}
 use mir.Syntax.{w64}

@@ -1,4 +1,4 @@
--- `put_info` gives `nodeInfoWords`, by the metadata's case; a signed number is passed as its bits.
+-- `put_info` gives `node_info_words`, by the metadata's case; a signed number is passed as its bits.
 use native.Mathlib.Omega.{arith}
 use mir.Syntax.{w32, w64}
 use Rattle.elements.specs.declared.element.NodeInfo.TheVariants as info

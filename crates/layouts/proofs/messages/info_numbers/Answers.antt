@@ -1,4 +1,4 @@
--- `info_numbers` gives `infoWords`, number by number; a signed one is passed as its bits.
+-- `info_numbers` gives `info_words`, number by number; a signed one is passed as its bits.
 use mir.Syntax.{w32, w64}
 use Rattle.answers.proofs.laws.Signed.{as_word}
 use Rattle.layouts.proofs.messages.info_numbers.Goals as goal

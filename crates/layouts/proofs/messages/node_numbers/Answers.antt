@@ -1,4 +1,4 @@
--- `node_numbers` gives `nodeWords`, number by number; a signed one is passed as its bits.
+-- `node_numbers` gives `node_words`, number by number; a signed one is passed as its bits.
 use mir.Syntax.{w64}
 use Rattle.answers.proofs.laws.Signed.{as_word}
 use Rattle.layouts.proofs.messages.node_numbers.Goals as goal

@@ -1,4 +1,4 @@
--- `relation_numbers` gives `relationWords`, number by number; the signed id is passed as its bits.
+-- `relation_numbers` gives `relation_words`, number by number; the signed id is passed as its bits.
 use mir.Syntax.{w64}
 use Rattle.answers.proofs.laws.Signed.{as_word}
 use Rattle.layouts.proofs.messages.relation_numbers.Goals as goal

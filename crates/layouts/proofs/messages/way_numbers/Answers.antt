@@ -1,4 +1,4 @@
--- `way_numbers` gives `wayWords`, number by number; the signed id is passed as its bits.
+-- `way_numbers` gives `way_words`, number by number; the signed id is passed as its bits.
 use mir.Syntax.{w64}
 use Rattle.answers.proofs.laws.Signed.{as_word}
 use Rattle.layouts.proofs.messages.way_numbers.Goals as goal

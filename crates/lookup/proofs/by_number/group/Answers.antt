@@ -1,4 +1,4 @@
--- `group` makes the tests of `groupAt`; the entry that it reads is inside because the whole table is.
+-- `group` makes the tests of `group_at`; the entry that it reads is inside because the whole table is.
 use native.Mathlib.Omega.{arith}
 use Prim.Native.Nat.{◌+◌, ◌*◌, ◌≤◌}
 use mathlib.Core.Path.{◌≡◌, sym, ◌∙◌}

@@ -1,4 +1,4 @@
--- `is_inside` makes the three tests of `isRecordInside`.
+-- `is_inside` makes the three tests of `is_record_inside`.
 use borrow.Author.Tests.{le-leb, lt-leb}
 use Rattle.fields.proofs.laws.Part.{refuted, confirmed}
 use Rattle.lookup.proofs.by_number.is_inside.Goals as goal

@@ -1,4 +1,4 @@
--- `member_numbers` gives `memberItem`, by the case of the id; a signed number is passed as its bits.
+-- `member_numbers` gives `member_item`, by the case of the id; a signed number is passed as its bits.
 use Prim.Native.Nat.{ℕ}
 use mathlib.Core.Path.{ap}
 use mathlib.Core.List.{[], ◌∷◌}

@@ -1,4 +1,4 @@
--- `field_by` is `withPayload`, by the payload's case.
+-- `field_by` is `with_payload`, by the payload's case.
 use mathlib.Core.Path.{sym, ap}
 use Rattle.protobuf.specs.Tag.{split}
 use Rattle.message.specs.Answers.{payload_of}

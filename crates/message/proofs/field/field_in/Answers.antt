@@ -1,4 +1,4 @@
--- `field_in` takes the word apart as `fieldIn` does.
+-- `field_in` takes the word apart as `field_in` does.
 use Prim.Native.Nat.{◌%◌}
 use mathlib.Core.Path.{sym}
 use borrow.Author.Tests.{eq-eqb, ne_eqb}

@@ -1,4 +1,4 @@
--- `read_len_delimited` answers what `lengthDelimited` says: the varint's refusal is handed up, and its value is held against what is left.
+-- `read_len_delimited` answers what `length_delimited` says: the varint's refusal is handed up, and its value is held against what is left.
 use native.Mathlib.Omega.{arith}
 use mathlib.Core.Path.{◌≡◌, sym}
 use Rattle.protobuf.specs.Read.{taken}

@@ -1,4 +1,4 @@
--- `read_raw_varint` answers what `rawVarint` says: the varint's answer is handed on, with the bytes from its place to the next.
+-- `read_raw_varint` answers what `raw_varint` says: the varint's answer is handed on, with the bytes from its place to the next.
 use native.Mathlib.Omega.{arith}
 use mathlib.Core.Path.{sym}
 use Rattle.protobuf.specs.Answers.{varint_of}

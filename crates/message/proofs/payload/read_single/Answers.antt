@@ -1,4 +1,4 @@
--- `read_single` is `valueBy` at each wire type's number.
+-- `read_single` is `value_by` at each wire type's number.
 use mathlib.Core.Path.{refl}
 use Rattle.protobuf.specs.Read.{and_then}
 use Rattle.message.specs.Payload.{value_by, group_by}

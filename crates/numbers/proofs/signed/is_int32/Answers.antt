@@ -1,4 +1,4 @@
--- `is_int32` makes the two tests of `isInt32`.
+-- `is_int32` makes the two tests of `is_int32`.
 use Rattle.std.proofs.Common.{le-ltb, lt-ltb}
 use Rattle.numbers.proofs.signed.is_int32.Goals as goal
 

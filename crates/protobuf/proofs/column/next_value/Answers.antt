@@ -1,4 +1,4 @@
--- `next_value` finds what `stepAt` says: the state's test, the end, a value of one byte or of two, or the varint that may not pass the column's
+-- `next_value` finds what `step_at` says: the state's test, the end, a value of one byte or of two, or the varint that may not pass the column's
 -- end.
 use mathlib.Core.Path.{refl, sym, ap, ◌∙◌}
 use native.Mathlib.Omega.{arith}

@@ -1,4 +1,4 @@
--- `short_value` serves values of one to three bytes, as `stepAt` finds them.
+-- `short_value` serves values of one to three bytes, as `step_at` finds them.
 use native.Mathlib.Omega.{arith}
 use lib.Dec.{lit<}
 use Rattle.protobuf.proofs.laws.Column.{step_one, step_two, step_three, short-some, short-outside, short-behind, short-long}

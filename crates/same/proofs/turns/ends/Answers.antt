@@ -1,4 +1,4 @@
--- `ends` makes the cases of `endsOf`.
+-- `ends` makes the cases of `ends_of`.
 use mathlib.Core.Path.{sym}
 use Rattle.same.specs.Turns.{ends_of}
 use Rattle.same.proofs.turns.ends.Goals as goal

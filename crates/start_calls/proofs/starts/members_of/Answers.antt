@@ -1,4 +1,4 @@
--- `members_of` makes the tests of `membersStartIn` in its order.
+-- `members_of` makes the tests of `members_start_in` in its order.
 use mathlib.Core.Path.{refl}
 use lib.IntN.{pos}
 use Rattle.fields.proofs.laws.Part.{refuted, confirmed}

@@ -1,4 +1,4 @@
--- `refs_of` makes the tests of `refsStartIn` in its order.
+-- `refs_of` makes the tests of `refs_start_in` in its order.
 use mathlib.Core.Path.{refl, ap}
 use lib.IntN.{pos}
 use Rattle.protobuf.specs.declared.column.Column.{Column}

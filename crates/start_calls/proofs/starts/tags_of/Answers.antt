@@ -1,4 +1,4 @@
--- `tags_of` makes the tests of `tagsStartIn` in its order.
+-- `tags_of` makes the tests of `tags_start_in` in its order.
 use mathlib.Core.Path.{ap}
 use Rattle.elements.specs.declared.tags.TagIter.TheVariants as iter
 use Rattle.start_calls.proofs.laws.Starts.{starts-kept, starts-refused, starts_as, tags-short, tags-of-dense, tags-of-node, tags-of-none, tags-of-others}

@@ -1,4 +1,4 @@
--- `dense_info_of` is `denseInfoOf`, field by field.
+-- `dense_info_of` is `dense_info_of`, field by field.
 use Rattle.views.proofs.dense_info.dense_info_of.Goals as goal
 
 pub returns : goal.returns

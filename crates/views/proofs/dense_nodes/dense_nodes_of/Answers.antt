@@ -1,4 +1,4 @@
--- `dense_nodes_of` is `denseNodesOf`, field by field.
+-- `dense_nodes_of` is `dense_nodes_of`, field by field.
 use Rattle.views.proofs.dense_nodes.dense_nodes_of.Goals as goal
 
 pub returns : goal.returns

@@ -1,4 +1,4 @@
--- `bool_of` is `boolOf`, by whether the number is present.
+-- `bool_of` is `bool_of`, by whether the number is present.
 use Rattle.views.proofs.info.bool_of.Goals as goal
 
 pub returns-then-x : goal.returns-then-x

@@ -1,4 +1,4 @@
--- `info_fields` is `infoFields`, field by field.
+-- `info_fields` is `info_fields`, field by field.
 use Rattle.views.proofs.info.info_fields.Goals as goal
 
 pub returns : goal.returns

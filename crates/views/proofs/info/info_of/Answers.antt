@@ -1,4 +1,4 @@
--- `info_of` is `infoOf`, field by field, from what each call ensures.
+-- `info_of` is `info_of`, field by field, from what each call ensures.
 use mathlib.Core.Path.{ap, ◌∙◌}
 use Rattle.views.specs.Info.{int32_of, int64_of}
 use Rattle.views.proofs.info.info_of.Goals as goal

@@ -1,4 +1,4 @@
--- `unless_minus_one32` is `unlessMinusOne` at 32 bits: the machine compares bits, and −1 alone has all of them set.
+-- `unless_minus_one32` is `unless_minus_one` at 32 bits: the machine compares bits, and −1 alone has all of them set.
 use mir.Syntax.{w32}
 use Rattle.views.proofs.laws.Info.{minus_one, not-minus-one}
 use Rattle.views.proofs.info.unless_minus_one32.Goals as goal

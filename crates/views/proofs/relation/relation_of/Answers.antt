@@ -1,4 +1,4 @@
--- `relation_of` is `relationOf`, field by field.
+-- `relation_of` is `relation_of`, field by field.
 use mathlib.Core.Path.{ap, ◌∙◌}
 use mir.Syntax.{w64}
 use Rattle.numbers.specs.Signed.{twos}

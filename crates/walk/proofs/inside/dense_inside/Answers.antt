@@ -1,4 +1,4 @@
--- `dense_inside` makes the tests of `denseInside` in their order.
+-- `dense_inside` makes the tests of `dense_inside` in their order.
 use Rattle.fields.proofs.laws.Part.{refuted, confirmed}
 use Rattle.walk.proofs.laws.Inside.{first-fails, first_holds}
 use Rattle.walk.proofs.inside.dense_inside.Goals as goal

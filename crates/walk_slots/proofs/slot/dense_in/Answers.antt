@@ -1,4 +1,4 @@
--- `dense_in` makes the tests of `denseAt` in its order.
+-- `dense_in` makes the tests of `dense_at` in its order.
 use mathlib.Core.Path.{ap, ◌∙◌}
 use Rattle.fields.proofs.laws.Part.{refuted, confirmed}
 use Rattle.walk_slots.specs.Slot.{walk_by}

@@ -1,4 +1,4 @@
--- `infos_numbers` gives `infosWords`, number by number; a sum is passed as its bits.
+-- `infos_numbers` gives `infos_words`, number by number; a sum is passed as its bits.
 use mir.Syntax.{w32, w64}
 use Rattle.answers.proofs.laws.Signed.{as_word}
 use Rattle.walk_slots.specs.Held.{InfosHeld}

@@ -1,4 +1,4 @@
--- `nodes_numbers` gives `nodesWords` behind the phase and the flag, number by number; a sum is passed as its bits.
+-- `nodes_numbers` gives `nodes_words` behind the phase and the flag, number by number; a sum is passed as its bits.
 use mir.Syntax.{w64}
 use Rattle.answers.proofs.laws.Signed.{as_word}
 use Rattle.walk_slots.specs.Held.{NodesHeld}

@@ -1,4 +1,4 @@
--- `phase_in` makes the tests of `walkAt` in its order.
+-- `phase_in` makes the tests of `walk_at` in its order.
 use mathlib.Core.Path.{ap, ◌∙◌}
 use mathlib.Core.Bool.{true, false}
 use Rattle.walk_slots.specs.Slot.{walk_by}

@@ -1,4 +1,4 @@
--- `record_of` is `recordBy`, field by field.
+-- `record_of` is `record_by`, field by field.
 use Prim.Native.Nat.{◌+◌, ◌*◌}
 use mir.Syntax.{w32, w64}
 use Rattle.numbers.proofs.laws.Machine.{returned}
