@@ -6,4 +6,5 @@ pub mod Refusals
 pub mod Scan
 pub mod Limits
 pub mod Room
+pub mod Clauses
 pub mod Leaves

@@ -24,17 +24,16 @@ use Rattle.message.proofs.laws.Message.{fields-forward}
 use Rattle.fields.specs.declared.part.Part.{Part}
 use Rattle.fields.specs.Part.{part_by, no_part}
 use Rattle.fields.specs.Parts.{parts_of}
-use Rattle.fields.specs.Outcome.{Outcome, each}
+use Rattle.fields.specs.Outcome.{Outcome}
 use Rattle.fields.specs.Outcome as outcome
 use Rattle.fields.specs.View.{view}
 use Rattle.fields.specs.Schema.{primitive_block, string_table}
-use Rattle.fields.proofs.laws.Outcome.{each-refused}
 use Rattle.wire.specs.declared.primitive_block.BlockFields.{BlockFields}
 use Rattle.wire.specs.declared.record.WireBlock.{WireBlock}
 use Rattle.wire.specs.Block.{block_fields}
 use Rattle.wire.specs.Block.{last_of, chosen_table}
-use Rattle.wire.specs.Scan.{limit, string_bytes, string_count, meta, scanned, fields_stage, strings_stage, FieldsRead, StringsRead, after_scan}
-use Rattle.wire.proofs.laws.Refusals.{Each, FairOutcome, was_kept, was_refused, fair_refusal, fair_onward, view_fair, Other, never}
+use Rattle.wire.specs.Scan.{limit, string_bytes, string_count, scanned, fields_stage, strings_stage, FieldsRead, StringsRead}
+use Rattle.wire.proofs.laws.Refusals.{Each, FairOutcome, was_kept, was_refused, fair_onward, view_fair, Other, never}
 use Rattle.wire.proofs.laws.Scan.{block-length, string_bytes-length, string_table_lem, string_count_lem, group-count, with-room}
 
 -- ---- what a field takes
@@ -166,7 +165,11 @@ entries-few {s} {block} {top} r =
 never_13 : Each (Other 13)
 never_13 = never 13 (λ k h g e. omega arith) (λ e. omega arith)
 
-scan_fair : (s : List ℕ) (block : ℕ) → 5 * block ≤ length s → FairOutcome (Other 13) (scanned s block)
+-- what the scan's contract promises of a buffer of five times the block
+abbrev pub IsNeverShort : List ℕ → ℕ → Outcome WireBlock → Type 0
+IsNeverShort s block x = 5 * block ≤ length s → x ≡ outcome.refused NoRoom → ⊥
+
+pub scan_fair : (s : List ℕ) (block : ℕ) → 5 * block ≤ length s → FairOutcome (Other 13) (scanned s block)
 unfolding scanned fields_stage strings_stage
 scan_fair s block h =
     choose_elim (FairOutcome (Other 13)) (leb block (length s)) _ _
@@ -179,8 +182,3 @@ scan_fair s block h =
     subst (FairOutcome (Other 13)) (sym (with-room read (omega (arith, entries-few read)))) was_kept)
     (λ above. was_refused (λ e. omega arith)))
     (λ outside. was_refused (λ e. omega arith))
-
--- the clauses of the scan's contract, by the first two
-pub scan_clauses : (s : List ℕ) (block : ℕ) {x : Outcome WireBlock} {after : List ℕ} → x ≡ each meta (scanned s block) → after ≡ after_scan s block (scanned s block) → (x ≡ each meta (scanned s block)) × ((after ≡ after_scan s block (scanned s block)) × (5 * block ≤ length s → x ≡ outcome.refused NoRoom → ⊥))
-scan_clauses s block e g =
-    (e, (g, λ h no. fair_refusal (subst (FairOutcome (Other 13)) (each-refused meta (scanned s block) (sym e ∙ no)) (scan_fair s block h)) refl))

@@ -6,7 +6,7 @@ use Rattle.fields.specs.Outcome.{each}
 use Rattle.wire.specs.Block.{kept_block}
 use Rattle.wire.specs.Scan.{meta, after_scan}
 use Rattle.wire.proofs.laws.Scan.{scan-outside, scan_too_long, fields-refused, fields_read, fields-kept}
-use Rattle.wire.proofs.laws.Room.{scan_clauses}
+use Rattle.wire.proofs.laws.Clauses.{scan_clauses}
 use Rattle.wire.proofs.scan.scan.Goals as goal
 
 pub returns-then-buffer-block : goal.returns-then-buffer-block
