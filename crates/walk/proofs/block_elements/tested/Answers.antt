@@ -8,13 +8,13 @@ use Rattle.walk.proofs.block_elements.tested.Goals as goal
 pub returns-then-not-is_inside : goal.returns-then-not-is_inside
 returns-then-not-is_inside c =
     let a = c.args in
-    record { says = ap (element_said _ _) c.refuse.ensures ∙ record-outside a.buffer.now a.block a.state (refuted c.is_inside.ensures c.if-not-is_inside.true-raw); behind = ap element_behind c.refuse.ensures }
+    record { says = ap (element_said c.args.buffer.now c.args.block) c.refuse.ensures ∙ record-outside a.buffer.now a.block a.state (refuted c.is_inside.ensures c.if-not-is_inside.true-raw); behind = ap element_behind c.refuse.ensures }
 
 pub returns-then-not-state_inside : goal.returns-then-not-state_inside
 returns-then-not-state_inside c =
     let a = c.args in
     record {
-      says = ap (element_said _ _) c.refuse-then-not-state_inside.ensures
+      says = ap (element_said c.args.buffer.now c.args.block) c.refuse-then-not-state_inside.ensures
           ∙ state_outside a.buffer.now a.block a.state (confirmed c.is_inside.ensures c.if-not-is_inside.false-raw) (refuted c.state_inside.ensures c.if-not-state_inside.true-raw);
       behind = ap element_behind c.refuse-then-not-state_inside.ensures;
     }
