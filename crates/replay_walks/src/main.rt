@@ -10,19 +10,30 @@ mod steps;
 mod tally;
 mod words;
 
-ghost use Rattle.std.specs.Prelude.{◌≤◌, length};
+ghost use Rattle.std.specs.Prelude.{◌≡◌, ◌≤◌, length, IfOk};
 
 use fields::part::{Part, bytes_of};
 use line::{BYTES, Kind, decode, digits_on, kind_of, rest};
 use memchr::memchr;
 use protobuf::refusal::Refusal;
-use std::io::Write;
-use std::{fs, io};
+use std::fs::File;
+use std::io;
+use std::io::{Read, Write};
 use steps::{How, Passed, pass_walk};
 use tally::{Counts, Outcome, Tally, counted, more, nothing, print, print_tally};
 use wire::record::WireBlock;
 use wire::scan::{BlockScan, scan};
 use words::{NOWHERE, pass_refusal, pass_text};
+
+// The most bytes of the list.
+const LIST: usize = 262144;
+
+// Room for the list.
+fn list_buffer() -> [u8; LIST]
+    ensures { 262144 ≡ length result }
+{
+    [0; LIST]
+}
 
 // Whether a text was followed to its end.
 fn is_whole(text: &[u8], at: usize) -> bool {
@@ -167,9 +178,29 @@ fn take_lines<W: Write>(report: &mut W, list: &[u8]) -> io::Result<Tally> {
     Ok(t)
 }
 
+// Fills a buffer from a file's start, as far as the file goes, and says how many bytes were read.
+fn read_full<R: Read>(file: &mut R, buf: &mut [u8]) -> io::Result<usize>
+    ensures { IfOk result (λ n. n ≤ length buf.new) }
+{
+    let mut n = 0;
+    while n < buf.len() {
+        let more = file.read(&mut buf[n..])?;
+        if more == 0 {
+            return Ok(n);
+        }
+        n += more;
+    }
+    Ok(n)
+}
+
 fn main(rt: HostRuntime) -> io::Result<()> {
     let mut report = io::writer(&rt);
-    let list = fs::read(&rt, "walks.txt")?;
-    let t = take_lines(&mut report, &list)?;
+    let mut buf = list_buffer();
+    let mut file = File::open(&rt, "walks.txt")?;
+    let n = read_full(&mut file, &mut buf)?;
+    if n == LIST {
+        print(&mut report, b"the list may be longer than what was read\n")?;
+    }
+    let t = take_lines(&mut report, &buf[..n])?;
     print_tally(&mut report, t)
 }
