@@ -17,67 +17,50 @@ pub short_refs-run-requires : goal.short_refs-run-requires
 short_refs-run-requires c = omega arith
 
 pub shape_of-out-then-run-most : goal.shape_of-out-then-run-most
-shape_of-out-then-run-most c = let filled-run : let a = c.args in
-    Filling ref_item (refs_from a.buffer.now) 8 (refs_from a.buffer.now a.start) a.out.now a.most c.short_refs-run.result.count c.short_refs-run.result.next c.short_refs-run.new.out =
-    c.short_refs-run.ensures.keeps _ _ c.loop-count.invariant in
-    filled-run.long
+shape_of-out-then-run-most c =
+    (c.short_refs-run.ensures.keeps _ _ c.loop-count.invariant).long
 
 pub returns-then-run-most : goal.returns-then-run-most
-returns-then-run-most c = let filled-run : let a = c.args in
-    Filling ref_item (refs_from a.buffer.now) 8 (refs_from a.buffer.now a.start) a.out.now a.most c.short_refs-run.result.count c.short_refs-run.result.next c.short_refs-run.new.out =
-    c.short_refs-run.ensures.keeps _ _ c.loop-count.invariant in
-    fill_full _ _ 8 filled-run iter.Ended (omega arith) c.refs_behind.ensures
+returns-then-run-most c =
+    fill_full _ _ 8 (c.short_refs-run.ensures.keeps _ _ c.loop-count.invariant) iter.Ended (omega arith) c.refs_behind.ensures
 
 pub shape_of-out-then-has_ended : goal.shape_of-out-then-has_ended
-shape_of-out-then-has_ended c = let filled-run : let a = c.args in
-    Filling ref_item (refs_from a.buffer.now) 8 (refs_from a.buffer.now a.start) a.out.now a.most c.short_refs-run.result.count c.short_refs-run.result.next c.short_refs-run.new.out =
-    c.short_refs-run.ensures.keeps _ _ c.loop-count.invariant in
-    filled-run.long
+shape_of-out-then-has_ended c =
+    (c.short_refs-run.ensures.keeps _ _ c.loop-count.invariant).long
 
 pub returns-then-has_ended : goal.returns-then-has_ended
-returns-then-has_ended c = let filled-run : let a = c.args in
-    Filling ref_item (refs_from a.buffer.now) 8 (refs_from a.buffer.now a.start) a.out.now a.most c.short_refs-run.result.count c.short_refs-run.result.next c.short_refs-run.new.out =
-    c.short_refs-run.ensures.keeps _ _ c.loop-count.invariant in
-    let p = filled-run in
+returns-then-has_ended c =
+    let p = c.short_refs-run.ensures.keeps _ _ c.loop-count.invariant in
     fill_ended _ _ 8 p iter.Ended (omega arith) (c.has_ended.ensures c.if-has_ended.true) c.refs_behind-then-has_ended.ensures
 
 pub overflow_mul-run : goal.overflow_mul-run
-overflow_mul-run c = let filled-run : let a = c.args in
-    Filling ref_item (refs_from a.buffer.now) 8 (refs_from a.buffer.now a.start) a.out.now a.most c.short_refs-run.result.count c.short_refs-run.result.next c.short_refs-run.new.out =
-    c.short_refs-run.ensures.keeps _ _ c.loop-count.invariant in
-    let p = filled-run in omega arith
+overflow_mul-run c =
+    let p = c.short_refs-run.ensures.keeps _ _ c.loop-count.invariant in
+    omega arith
 
 pub shape_of-out-then-r-ne0 : goal.shape_of-out-then-r-ne0
-shape_of-out-then-r-ne0 c = let filled-run : let a = c.args in
-    Filling ref_item (refs_from a.buffer.now) 8 (refs_from a.buffer.now a.start) a.out.now a.most c.short_refs-run.result.count c.short_refs-run.result.next c.short_refs-run.new.out =
-    c.short_refs-run.ensures.keeps _ _ c.loop-count.invariant in
-    let p = filled-run in c.put_ref-r.auto.out ∙ p.long
+shape_of-out-then-r-ne0 c =
+    let p = c.short_refs-run.ensures.keeps _ _ c.loop-count.invariant in
+    c.put_ref-r.auto.out ∙ p.long
 
 pub returns-then-r-ne0 : goal.returns-then-r-ne0
-returns-then-r-ne0 c = let filled-run : let a = c.args in
-    Filling ref_item (refs_from a.buffer.now) 8 (refs_from a.buffer.now a.start) a.out.now a.most c.short_refs-run.result.count c.short_refs-run.result.next c.short_refs-run.new.out =
-    c.short_refs-run.ensures.keeps _ _ c.loop-count.invariant in
-    let p = filled-run in
+returns-then-r-ne0 c =
+    let p = c.short_refs-run.ensures.keeps _ _ c.loop-count.invariant in
     fill_ends _ _ 8 p iter.Ended (omega arith) c.put_ref-r.ensures c.if-r-ne0.true c.refs_behind-then-r-ne0.ensures
 
 pub overflow_add-count : goal.overflow_add-count
-overflow_add-count c = let filled-run : let a = c.args in
-    Filling ref_item (refs_from a.buffer.now) 8 (refs_from a.buffer.now a.start) a.out.now a.most c.short_refs-run.result.count c.short_refs-run.result.next c.short_refs-run.new.out =
-    c.short_refs-run.ensures.keeps _ _ c.loop-count.invariant in
-    let p = filled-run in omega arith
+overflow_add-count c =
+    let p = c.short_refs-run.ensures.keeps _ _ c.loop-count.invariant in
+    omega arith
 
 pub loop-count-smaller : goal.loop-count-smaller
-loop-count-smaller c = let filled-run : let a = c.args in
-    Filling ref_item (refs_from a.buffer.now) 8 (refs_from a.buffer.now a.start) a.out.now a.most c.short_refs-run.result.count c.short_refs-run.result.next c.short_refs-run.new.out =
-    c.short_refs-run.ensures.keeps _ _ c.loop-count.invariant in
-    let p = filled-run in
+loop-count-smaller c =
+    let p = c.short_refs-run.ensures.keeps _ _ c.loop-count.invariant in
     omega (arith, c.short_refs-run.ensures.onward)
 
 pub loop-count-preserved : goal.loop-count-preserved
-loop-count-preserved c = let filled-run : let a = c.args in
-    Filling ref_item (refs_from a.buffer.now) 8 (refs_from a.buffer.now a.start) a.out.now a.most c.short_refs-run.result.count c.short_refs-run.result.next c.short_refs-run.new.out =
-    c.short_refs-run.ensures.keeps _ _ c.loop-count.invariant in
-    let p = filled-run in
+loop-count-preserved c =
+    let p = c.short_refs-run.ensures.keeps _ _ c.loop-count.invariant in
     fill_on _ _ 8 p (λ x. lit≤ tt) (omega arith) c.put_ref-r.ensures c.if-r-ne0.false
 
 pub shape_of-out : goal.shape_of-out

@@ -9,6 +9,8 @@ use mir.Val.{to_z, of_z}
 use Rattle.numbers.specs.Signed.{zigzag, wrapping_add}
 use Rattle.numbers.proofs.laws.Machine.{returned}
 use Rattle.columns.proofs.laws.Zip.{typed, summed}
+use lib.IntN.{ℤ}
+use Rattle.columns.specs.declared.sums.Sum64.{Sum64}
 use Rattle.elements.specs.References.{refs_from}
 use Rattle.elements.specs.declared.references.WayRefIter.{WayRefIter}
 use Rattle.elements.specs.declared.references.WayRefIter.TheVariants as iter
@@ -17,10 +19,12 @@ use Rattle.calls.specs.Filling.{Run}
 use Rattle.calls.specs.References.{ref_item}
 use Rattle.calls.proofs.laws.Calls.{run-begins, run_on, run-from, puts-item}
 use Rattle.columns.proofs.laws.Short.{word_tells, word_within}
+use Rattle.calls.proofs.references.short_refs.Invariants.{state_at}
 use Rattle.calls.proofs.references.short_refs.Goals as goal
 
-abbrev state_at : ℕ → ℕ → ℕ → WayRefIter
-state_at at end sum = iter.Refs (record { column = record { at = at; end = end }; sum = to_z w64 sum })
+-- the state that was given, with its sum as the loop holds it
+by_bits : (v : Sum64) {from : WayRefIter} {z : ℤ} → from ≡ iter.Refs v → z ≡ v.sum → from ≡ state_at v.column.at v.column.end z
+by_bits v e k = e ∙ λ i. iter.Refs (record { column = v.column; sum = sym k i })
 
 pub loop-count-preserved : goal.loop-count-preserved
 loop-count-preserved c =
@@ -55,22 +59,10 @@ pub shape_of-out-after-loop-count : goal.shape_of-out-after-loop-count
 shape_of-out-after-loop-count c = c.loop-count.invariant.0
 
 pub returns-after-loop-count : goal.returns-after-loop-count
-returns-after-loop-count c = let run-here : let a = c.args in
-    Run ref_item (refs_from a.buffer.now) 8 a.most a.first a.from a.out.now c.loop-count.count (state_at c.loop-count.at c.in-Refs.c.column.end c.loop-count.sum-bits) c.loop-count.out =
-    let v = c.in-Refs.c in
-    run-from ref_item (refs_from _) 8
-    (c.in-Refs.is ∙ λ i. iter.Refs (record { column = v.column; sum = sym (returned w64 {r = v.sum} c.struct_told-1.given.1.0.1 refl) i }))
-    c.loop-count.invariant.1 in
-    run-here
+returns-after-loop-count c = run-from ref_item (refs_from _) 8 (by_bits _ c.in-Refs.is (returned w64 {r = c.in-Refs.c.sum} c.struct_told-1.given.1.0.1 refl)) c.loop-count.invariant.1
 
 pub shape_of-out-then-word-eq0 : goal.shape_of-out-then-word-eq0
 shape_of-out-then-word-eq0 c = c.loop-count.invariant.0
 
 pub returns-then-word-eq0 : goal.returns-then-word-eq0
-returns-then-word-eq0 c = let run-here : let a = c.args in
-    Run ref_item (refs_from a.buffer.now) 8 a.most a.first a.from a.out.now c.loop-count.count (state_at c.loop-count.at c.in-Refs.c.column.end c.loop-count.sum-bits) c.loop-count.out =
-    let v = c.in-Refs.c in
-    run-from ref_item (refs_from _) 8
-    (c.in-Refs.is ∙ λ i. iter.Refs (record { column = v.column; sum = sym (returned w64 {r = v.sum} c.struct_told-1.given.1.0.1 refl) i }))
-    c.loop-count.invariant.1 in
-    run-here
+returns-then-word-eq0 c = run-from ref_item (refs_from _) 8 (by_bits _ c.in-Refs.is (returned w64 {r = c.in-Refs.c.sum} c.struct_told-1.given.1.0.1 refl)) c.loop-count.invariant.1

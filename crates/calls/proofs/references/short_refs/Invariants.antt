@@ -11,7 +11,7 @@ use Rattle.calls.specs.Filling.{Run}
 use Rattle.calls.specs.References.{ref_item}
 use Rattle.calls.proofs.references.short_refs.Given as goal
 
-abbrev state_at : ℕ → ℕ → ℤ → WayRefIter
+abbrev pub state_at : ℕ → ℕ → ℤ → WayRefIter
 state_at at end sum = iter.Refs (record { column = record { at = at; end = end }; sum = sum })
 
 abbrev pub invariant-loop-count : goal.invariant-loop-count

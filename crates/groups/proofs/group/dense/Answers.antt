@@ -18,36 +18,26 @@ returns-then-not-part_fits c = dense-outside _ _ _ (refuted c.part_fits.ensures 
 
 pub overflow_add-end : goal.overflow_add-end
 overflow_add-end c =
-    let fits : let a = c.args in leb (a.start + a.len) (length a.buffer.now) ≡ true =
-    confirmed c.part_fits.ensures c.if-not-part_fits.false-raw in
     let within : let a = c.args in a.start + a.len ≤ length a.buffer.now =
-    leb-true _ _ fits in
+    leb-true _ _ (confirmed c.part_fits.ensures c.if-not-part_fits.false-raw) in
     omega (arith, within)
 
 pub slice_bounds-dense_part-end : goal.slice_bounds-dense_part-end
 slice_bounds-dense_part-end c =
-    let fits : let a = c.args in leb (a.start + a.len) (length a.buffer.now) ≡ true =
-    confirmed c.part_fits.ensures c.if-not-part_fits.false-raw in
     let within : let a = c.args in a.start + a.len ≤ length a.buffer.now =
-    leb-true _ _ fits in
+    leb-true _ _ (confirmed c.part_fits.ensures c.if-not-part_fits.false-raw) in
     omega (arith, within)
 
 pub part_at-requires : goal.part_at-requires
 part_at-requires c =
-    let fits : let a = c.args in leb (a.start + a.len) (length a.buffer.now) ≡ true =
-    confirmed c.part_fits.ensures c.if-not-part_fits.false-raw in
     let a = c.args in
-    omega (arith, dense-within a.buffer.now a.start a.len fits (says found_dense c.dense_part-r.ensures c.in-Found.is))
+    omega (arith, dense-within a.buffer.now a.start a.len (confirmed c.part_fits.ensures c.if-not-part_fits.false-raw) (says found_dense c.dense_part-r.ensures c.in-Found.is))
 
 pub returns-in-Refused : goal.returns-in-Refused
 returns-in-Refused c =
-    let fits : let a = c.args in leb (a.start + a.len) (length a.buffer.now) ≡ true =
-    confirmed c.part_fits.ensures c.if-not-part_fits.false-raw in
-    dense-refused _ _ _ fits (says found_dense c.dense_part-r.ensures c.in-Refused.is)
+    dense-refused _ _ _ (confirmed c.part_fits.ensures c.if-not-part_fits.false-raw) (says found_dense c.dense_part-r.ensures c.in-Refused.is)
 
 pub returns-in-Found : goal.returns-in-Found
 returns-in-Found c =
-    let fits : let a = c.args in leb (a.start + a.len) (length a.buffer.now) ≡ true =
-    confirmed c.part_fits.ensures c.if-not-part_fits.false-raw in
     ap kept c.part_at.ensures
-    ∙ dense-found _ _ _ fits (says found_dense c.dense_part-r.ensures c.in-Found.is)
+    ∙ dense-found _ _ _ (confirmed c.part_fits.ensures c.if-not-part_fits.false-raw) (says found_dense c.dense_part-r.ensures c.in-Found.is)

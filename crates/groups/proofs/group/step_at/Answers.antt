@@ -15,48 +15,34 @@ returns-then-not-part_fits c = step_outside _ _ (refuted c.part_fits.ensures c.i
 
 pub returns-then-len-at : goal.returns-then-len-at
 returns-then-len-at c =
-    let fits : let a = c.args in leb (a.place.start + a.place.len) (length a.buffer.now) ≡ true =
-    confirmed c.part_fits.ensures c.if-not-part_fits.false-raw in
-    step_behind _ _ fits c.if-len-at.true
+    step_behind _ _ (confirmed c.part_fits.ensures c.if-not-part_fits.false-raw) c.if-len-at.true
 
 pub overflow_add-end : goal.overflow_add-end
 overflow_add-end c =
-    let fits : let a = c.args in leb (a.place.start + a.place.len) (length a.buffer.now) ≡ true =
-    confirmed c.part_fits.ensures c.if-not-part_fits.false-raw in
     let within : let a = c.args in a.place.start + a.place.len ≤ length a.buffer.now =
-    leb-true _ _ fits in
+    leb-true _ _ (confirmed c.part_fits.ensures c.if-not-part_fits.false-raw) in
     omega (arith, within)
 
 pub slice_bounds-first_part-end : goal.slice_bounds-first_part-end
 slice_bounds-first_part-end c =
-    let fits : let a = c.args in leb (a.place.start + a.place.len) (length a.buffer.now) ≡ true =
-    confirmed c.part_fits.ensures c.if-not-part_fits.false-raw in
     let within : let a = c.args in a.place.start + a.place.len ≤ length a.buffer.now =
-    leb-true _ _ fits in
+    leb-true _ _ (confirmed c.part_fits.ensures c.if-not-part_fits.false-raw) in
     omega (arith, within)
 
 pub part_at-part-requires : goal.part_at-part-requires
 part_at-part-requires c =
-    let fits : let a = c.args in leb (a.place.start + a.place.len) (length a.buffer.now) ≡ true =
-    confirmed c.part_fits.ensures c.if-not-part_fits.false-raw in
     let a = c.args in
-    omega (arith, step_within a.buffer.now a.place fits c.first_part-p.ensures)
+    omega (arith, step_within a.buffer.now a.place (confirmed c.part_fits.ensures c.if-not-part_fits.false-raw) c.first_part-p.ensures)
 
 pub overflow_add-behind : goal.overflow_add-behind
 overflow_add-behind c =
-    let fits : let a = c.args in leb (a.place.start + a.place.len) (length a.buffer.now) ≡ true =
-    confirmed c.part_fits.ensures c.if-not-part_fits.false-raw in
     let a = c.args in
-    omega (arith, step_within a.buffer.now a.place fits c.first_part-p.ensures)
+    omega (arith, step_within a.buffer.now a.place (confirmed c.part_fits.ensures c.if-not-part_fits.false-raw) c.first_part-p.ensures)
 
 pub returns-then-p : goal.returns-then-p
 returns-then-p c =
-    let fits : let a = c.args in leb (a.place.start + a.place.len) (length a.buffer.now) ≡ true =
-    confirmed c.part_fits.ensures c.if-not-part_fits.false-raw in
-    step_message _ _ fits c.first_part-p.ensures (omega arith) c.part_at-part.ensures c.if-p.true
+    step_message _ _ (confirmed c.part_fits.ensures c.if-not-part_fits.false-raw) c.first_part-p.ensures (omega arith) c.part_at-part.ensures c.if-p.true
 
 pub returns : goal.returns
 returns c =
-    let fits : let a = c.args in leb (a.place.start + a.place.len) (length a.buffer.now) ≡ true =
-    confirmed c.part_fits.ensures c.if-not-part_fits.false-raw in
-    step_ended _ _ fits c.first_part-p.ensures (omega arith) c.if-p.false
+    step_ended _ _ (confirmed c.part_fits.ensures c.if-not-part_fits.false-raw) c.first_part-p.ensures (omega arith) c.if-p.false

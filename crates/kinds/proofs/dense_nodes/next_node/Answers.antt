@@ -6,52 +6,29 @@ use Rattle.columns.specs.Inside.{behind_inside}
 use Rattle.columns.specs.KeysVals.{behind_of}
 use Rattle.columns.proofs.laws.Short.{word_within}
 use Rattle.kinds.proofs.laws.Short.{Word, short-found, short-refused}
--- the words of the row
 use Rattle.kinds.proofs.dense_nodes.next_node.Goals as goal
 
 pub returns-in-Refused : goal.returns-in-Refused
-returns-in-Refused c = let words : let a = c.args in
-    Word a.buffer.now a.columns.rows.ids c.short_value-id.result
-    × (Word a.buffer.now a.columns.rows.lats c.short_value-lat.result
-    × Word a.buffer.now a.columns.rows.lons c.short_value-lon.result) =
-    (c.short_value-id.ensures, (c.short_value-lat.ensures, c.short_value-lon.ensures)) in
-    let w = words in
+returns-in-Refused c =
     let a = c.args in
-    short-refused a.buffer.now a.columns w.0 c.if-id-eq0.false w.1.0 c.if-lat-eq0.false w.1.1 c.if-lon-eq0.false (says (behind_of _) c.pass_node-b.ensures.says c.in-Refused.is)
+    short-refused a.buffer.now a.columns c.short_value-id.ensures c.if-id-eq0.false c.short_value-lat.ensures c.if-lat-eq0.false c.short_value-lon.ensures c.if-lon-eq0.false (says (behind_of _) c.pass_node-b.ensures.says c.in-Refused.is)
 
 pub move_sum-requires : goal.move_sum-requires
-move_sum-requires c = let words : let a = c.args in
-    Word a.buffer.now a.columns.rows.ids c.short_value-id.result
-    × (Word a.buffer.now a.columns.rows.lats c.short_value-lat.result
-    × Word a.buffer.now a.columns.rows.lons c.short_value-lon.result) =
-    (c.short_value-id.ensures, (c.short_value-lat.ensures, c.short_value-lon.ensures)) in
-    omega (arith, c.well_formed.0.0, word_within c.args.buffer.now c.args.columns.rows.ids.column c.if-id-eq0.false words.0)
+move_sum-requires c =
+    omega (arith, c.well_formed.0.0, word_within c.args.buffer.now c.args.columns.rows.ids.column c.if-id-eq0.false c.short_value-id.ensures)
 
 pub move_sum-requires-in-Column : goal.move_sum-requires-in-Column
-move_sum-requires-in-Column c = let words : let a = c.args in
-    Word a.buffer.now a.columns.rows.ids c.short_value-id.result
-    × (Word a.buffer.now a.columns.rows.lats c.short_value-lat.result
-    × Word a.buffer.now a.columns.rows.lons c.short_value-lon.result) =
-    (c.short_value-id.ensures, (c.short_value-lat.ensures, c.short_value-lon.ensures)) in
-    omega (arith, c.well_formed.0.0, word_within c.args.buffer.now c.args.columns.rows.lats.column c.if-lat-eq0.false words.1.0)
+move_sum-requires-in-Column c =
+    omega (arith, c.well_formed.0.0, word_within c.args.buffer.now c.args.columns.rows.lats.column c.if-lat-eq0.false c.short_value-lat.ensures)
 
 pub move_sum-requires-in-Column-2 : goal.move_sum-requires-in-Column-2
-move_sum-requires-in-Column-2 c = let words : let a = c.args in
-    Word a.buffer.now a.columns.rows.ids c.short_value-id.result
-    × (Word a.buffer.now a.columns.rows.lats c.short_value-lat.result
-    × Word a.buffer.now a.columns.rows.lons c.short_value-lon.result) =
-    (c.short_value-id.ensures, (c.short_value-lat.ensures, c.short_value-lon.ensures)) in
-    omega (arith, c.well_formed.0.0, word_within c.args.buffer.now c.args.columns.rows.lons.column c.if-lon-eq0.false words.1.1)
+move_sum-requires-in-Column-2 c =
+    omega (arith, c.well_formed.0.0, word_within c.args.buffer.now c.args.columns.rows.lons.column c.if-lon-eq0.false c.short_value-lon.ensures)
 
 pub returns-in-Column : goal.returns-in-Column
-returns-in-Column c = let words : let a = c.args in
-    Word a.buffer.now a.columns.rows.ids c.short_value-id.result
-    × (Word a.buffer.now a.columns.rows.lats c.short_value-lat.result
-    × Word a.buffer.now a.columns.rows.lons c.short_value-lon.result) =
-    (c.short_value-id.ensures, (c.short_value-lat.ensures, c.short_value-lon.ensures)) in
-    let w = words in
+returns-in-Column c =
     let a = c.args in
     let to = c.in-Column.behind in
-    short-found a.buffer.now a.columns w.0 c.if-id-eq0.false w.1.0 c.if-lat-eq0.false w.1.1 c.if-lon-eq0.false to
+    short-found a.buffer.now a.columns c.short_value-id.ensures c.if-id-eq0.false c.short_value-lat.ensures c.if-lat-eq0.false c.short_value-lon.ensures c.if-lon-eq0.false to
     (says (behind_of _) c.pass_node-b.ensures.says c.in-Column.is) (sym (ap (behind_inside _) c.in-Column.is) ∙ c.pass_node-b.ensures.inside)
     λ i. record { found = 1; columns = record { rows = record { ids = c.move_sum.ensures i; lats = c.move_sum-in-Column.ensures i; lons = c.move_sum-in-Column-2.ensures i }; keyvals = to } }

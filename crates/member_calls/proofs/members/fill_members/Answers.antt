@@ -16,54 +16,41 @@ pub short_members-run-requires : goal.short_members-run-requires
 short_members-run-requires c = omega arith
 
 pub shape_of-out-then-run-most : goal.shape_of-out-then-run-most
-shape_of-out-then-run-most c = let filled-run : let a = c.args in
-    Filling member_item (members_from a.buffer.now a.block) 32 (members_from a.buffer.now a.block a.start) a.out.now a.most c.short_members-run.result.count c.short_members-run.result.next c.short_members-run.new.out =
-    c.short_members-run.ensures.keeps _ _ c.loop-count.invariant in
-    filled-run.long
+shape_of-out-then-run-most c =
+    (c.short_members-run.ensures.keeps _ _ c.loop-count.invariant).long
 
 pub returns-then-run-most : goal.returns-then-run-most
-returns-then-run-most c = let filled-run : let a = c.args in
-    Filling member_item (members_from a.buffer.now a.block) 32 (members_from a.buffer.now a.block a.start) a.out.now a.most c.short_members-run.result.count c.short_members-run.result.next c.short_members-run.new.out =
-    c.short_members-run.ensures.keeps _ _ c.loop-count.invariant in
-    fill_full _ _ 32 filled-run iter.Ended (omega arith) c.members_behind.ensures
+returns-then-run-most c =
+    fill_full _ _ 32 (c.short_members-run.ensures.keeps _ _ c.loop-count.invariant) iter.Ended (omega arith) c.members_behind.ensures
 
 pub overflow_mul-run : goal.overflow_mul-run
-overflow_mul-run c = let filled-run : let a = c.args in
-    Filling member_item (members_from a.buffer.now a.block) 32 (members_from a.buffer.now a.block a.start) a.out.now a.most c.short_members-run.result.count c.short_members-run.result.next c.short_members-run.new.out =
-    c.short_members-run.ensures.keeps _ _ c.loop-count.invariant in
-    let p = filled-run in omega arith
+overflow_mul-run c =
+    let p = c.short_members-run.ensures.keeps _ _ c.loop-count.invariant in
+    omega arith
 
 pub shape_of-out-then-r-ne0 : goal.shape_of-out-then-r-ne0
-shape_of-out-then-r-ne0 c = let filled-run : let a = c.args in
-    Filling member_item (members_from a.buffer.now a.block) 32 (members_from a.buffer.now a.block a.start) a.out.now a.most c.short_members-run.result.count c.short_members-run.result.next c.short_members-run.new.out =
-    c.short_members-run.ensures.keeps _ _ c.loop-count.invariant in
-    let p = filled-run in c.put_member-r.auto.out ∙ p.long
+shape_of-out-then-r-ne0 c =
+    let p = c.short_members-run.ensures.keeps _ _ c.loop-count.invariant in
+    c.put_member-r.auto.out ∙ p.long
 
 pub returns-then-r-ne0 : goal.returns-then-r-ne0
-returns-then-r-ne0 c = let filled-run : let a = c.args in
-    Filling member_item (members_from a.buffer.now a.block) 32 (members_from a.buffer.now a.block a.start) a.out.now a.most c.short_members-run.result.count c.short_members-run.result.next c.short_members-run.new.out =
-    c.short_members-run.ensures.keeps _ _ c.loop-count.invariant in
-    let p = filled-run in
+returns-then-r-ne0 c =
+    let p = c.short_members-run.ensures.keeps _ _ c.loop-count.invariant in
     fill_ends _ _ 32 p iter.Ended (omega arith) c.put_member-r.ensures c.if-r-ne0.true c.members_behind-then-r-ne0.ensures
 
 pub overflow_add-count : goal.overflow_add-count
-overflow_add-count c = let filled-run : let a = c.args in
-    Filling member_item (members_from a.buffer.now a.block) 32 (members_from a.buffer.now a.block a.start) a.out.now a.most c.short_members-run.result.count c.short_members-run.result.next c.short_members-run.new.out =
-    c.short_members-run.ensures.keeps _ _ c.loop-count.invariant in
-    let p = filled-run in omega arith
+overflow_add-count c =
+    let p = c.short_members-run.ensures.keeps _ _ c.loop-count.invariant in
+    omega arith
 
 pub loop-count-smaller : goal.loop-count-smaller
-loop-count-smaller c = let filled-run : let a = c.args in
-    Filling member_item (members_from a.buffer.now a.block) 32 (members_from a.buffer.now a.block a.start) a.out.now a.most c.short_members-run.result.count c.short_members-run.result.next c.short_members-run.new.out =
-    c.short_members-run.ensures.keeps _ _ c.loop-count.invariant in
-    let p = filled-run in
+loop-count-smaller c =
+    let p = c.short_members-run.ensures.keeps _ _ c.loop-count.invariant in
     omega (arith, c.short_members-run.ensures.onward)
 
 pub loop-count-preserved : goal.loop-count-preserved
-loop-count-preserved c = let filled-run : let a = c.args in
-    Filling member_item (members_from a.buffer.now a.block) 32 (members_from a.buffer.now a.block a.start) a.out.now a.most c.short_members-run.result.count c.short_members-run.result.next c.short_members-run.new.out =
-    c.short_members-run.ensures.keeps _ _ c.loop-count.invariant in
-    let p = filled-run in
+loop-count-preserved c =
+    let p = c.short_members-run.ensures.keeps _ _ c.loop-count.invariant in
     fill_on _ _ 32 p item-size (omega arith) c.put_member-r.ensures c.if-r-ne0.false
 
 pub shape_of-out : goal.shape_of-out

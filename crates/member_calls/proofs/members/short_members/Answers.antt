@@ -12,6 +12,8 @@ use Rattle.numbers.proofs.laws.Machine.{returned}
 use Rattle.protobuf.specs.declared.column.Column.{Column}
 use Rattle.fields.proofs.laws.Part.{confirmed}
 use Rattle.lookup.specs.Lookup.{is_record_inside}
+use lib.IntN.{ℤ}
+use Rattle.columns.specs.declared.zip.MemberColumns.{MemberColumns}
 use Rattle.elements.specs.Members.{members_from}
 use Rattle.elements.specs.declared.members.RelMemberIter.{RelMemberIter}
 use Rattle.elements.specs.declared.members.RelMemberIter.TheVariants as iter
@@ -22,11 +24,12 @@ use Rattle.columns.proofs.laws.Short.{word_within}
 use Rattle.member_calls.specs.Members.{member_item}
 use Rattle.member_calls.proofs.laws.Members.{item-size}
 use Rattle.member_calls.proofs.laws.ShortMembers.{member-put}
+use Rattle.member_calls.proofs.members.short_members.Invariants.{state_at}
 use Rattle.member_calls.proofs.members.short_members.Goals as goal
 
-abbrev state_at : Column → Column → Column → ℕ → RelMemberIter
-state_at roles memids types sum =
-    iter.Members (record { roles = roles; memids = record { column = memids; sum = to_z w64 sum }; types = types })
+-- the state that was given, with its sum as the loop holds it
+by_bits : (v : MemberColumns) {from : RelMemberIter} {z : ℤ} → from ≡ iter.Members v → z ≡ v.memids.sum → from ≡ state_at v.roles v.memids.column v.types z
+by_bits v e k = e ∙ λ i. iter.Members (record { roles = v.roles; memids = record { column = v.memids.column; sum = sym k i }; types = v.types })
 
 -- one member more
 pub loop-count-preserved : goal.loop-count-preserved
@@ -75,82 +78,34 @@ pub shape_of-out-after-loop-count : goal.shape_of-out-after-loop-count
 shape_of-out-after-loop-count c = c.loop-count.invariant.0
 
 pub returns-after-loop-count : goal.returns-after-loop-count
-returns-after-loop-count c = let stands : let a = c.args in is_record_inside a.buffer.now a.block ≡ true =
-    confirmed c.is_inside.ensures c.if-not-is_inside.false-raw in
-    let run-here : let a = c.args in
-    Run member_item (members_from a.buffer.now a.block) 32 a.most a.first a.from a.out.now c.loop-count.count (state_at c.loop-count.roles c.loop-count.memids c.loop-count.types c.loop-count.sum-bits) c.loop-count.out =
-    let v = c.in-Members.c in
-    let sum = returned w64 {r = v.memids.sum} c.struct_told-1.given.1.0.1 refl in
-    run-from member_item (members_from _ _) 32 (c.in-Members.is ∙ λ i. iter.Members (record { roles = v.roles; memids = record { column = v.memids.column; sum = sym sum i }; types = v.types }))
-    (c.loop-count.invariant.1 _ stands) in
-    run-here
+returns-after-loop-count c = run-from member_item (members_from _ _) 32 (by_bits _ c.in-Members.is (returned w64 {r = c.in-Members.c.memids.sum} c.struct_told-1.given.1.0.1 refl)) (c.loop-count.invariant.1 _ (confirmed c.is_inside.ensures c.if-not-is_inside.false-raw))
 
 pub shape_of-out-then-role-eq0 : goal.shape_of-out-then-role-eq0
 shape_of-out-then-role-eq0 c = c.loop-count.invariant.0
 
 pub returns-then-role-eq0 : goal.returns-then-role-eq0
-returns-then-role-eq0 c = let stands : let a = c.args in is_record_inside a.buffer.now a.block ≡ true =
-    confirmed c.is_inside.ensures c.if-not-is_inside.false-raw in
-    let run-here : let a = c.args in
-    Run member_item (members_from a.buffer.now a.block) 32 a.most a.first a.from a.out.now c.loop-count.count (state_at c.loop-count.roles c.loop-count.memids c.loop-count.types c.loop-count.sum-bits) c.loop-count.out =
-    let v = c.in-Members.c in
-    let sum = returned w64 {r = v.memids.sum} c.struct_told-1.given.1.0.1 refl in
-    run-from member_item (members_from _ _) 32 (c.in-Members.is ∙ λ i. iter.Members (record { roles = v.roles; memids = record { column = v.memids.column; sum = sym sum i }; types = v.types }))
-    (c.loop-count.invariant.1 _ stands) in
-    run-here
+returns-then-role-eq0 c = run-from member_item (members_from _ _) 32 (by_bits _ c.in-Members.is (returned w64 {r = c.in-Members.c.memids.sum} c.struct_told-1.given.1.0.1 refl)) (c.loop-count.invariant.1 _ (confirmed c.is_inside.ensures c.if-not-is_inside.false-raw))
 
 pub shape_of-out-then-id-eq0 : goal.shape_of-out-then-id-eq0
 shape_of-out-then-id-eq0 c = c.loop-count.invariant.0
 
 pub returns-then-id-eq0 : goal.returns-then-id-eq0
-returns-then-id-eq0 c = let stands : let a = c.args in is_record_inside a.buffer.now a.block ≡ true =
-    confirmed c.is_inside.ensures c.if-not-is_inside.false-raw in
-    let run-here : let a = c.args in
-    Run member_item (members_from a.buffer.now a.block) 32 a.most a.first a.from a.out.now c.loop-count.count (state_at c.loop-count.roles c.loop-count.memids c.loop-count.types c.loop-count.sum-bits) c.loop-count.out =
-    let v = c.in-Members.c in
-    let sum = returned w64 {r = v.memids.sum} c.struct_told-1.given.1.0.1 refl in
-    run-from member_item (members_from _ _) 32 (c.in-Members.is ∙ λ i. iter.Members (record { roles = v.roles; memids = record { column = v.memids.column; sum = sym sum i }; types = v.types }))
-    (c.loop-count.invariant.1 _ stands) in
-    run-here
+returns-then-id-eq0 c = run-from member_item (members_from _ _) 32 (by_bits _ c.in-Members.is (returned w64 {r = c.in-Members.c.memids.sum} c.struct_told-1.given.1.0.1 refl)) (c.loop-count.invariant.1 _ (confirmed c.is_inside.ensures c.if-not-is_inside.false-raw))
 
 pub shape_of-out-then-kind-eq0 : goal.shape_of-out-then-kind-eq0
 shape_of-out-then-kind-eq0 c = c.loop-count.invariant.0
 
 pub returns-then-kind-eq0 : goal.returns-then-kind-eq0
-returns-then-kind-eq0 c = let stands : let a = c.args in is_record_inside a.buffer.now a.block ≡ true =
-    confirmed c.is_inside.ensures c.if-not-is_inside.false-raw in
-    let run-here : let a = c.args in
-    Run member_item (members_from a.buffer.now a.block) 32 a.most a.first a.from a.out.now c.loop-count.count (state_at c.loop-count.roles c.loop-count.memids c.loop-count.types c.loop-count.sum-bits) c.loop-count.out =
-    let v = c.in-Members.c in
-    let sum = returned w64 {r = v.memids.sum} c.struct_told-1.given.1.0.1 refl in
-    run-from member_item (members_from _ _) 32 (c.in-Members.is ∙ λ i. iter.Members (record { roles = v.roles; memids = record { column = v.memids.column; sum = sym sum i }; types = v.types }))
-    (c.loop-count.invariant.1 _ stands) in
-    run-here
+returns-then-kind-eq0 c = run-from member_item (members_from _ _) 32 (by_bits _ c.in-Members.is (returned w64 {r = c.in-Members.c.memids.sum} c.struct_told-1.given.1.0.1 refl)) (c.loop-count.invariant.1 _ (confirmed c.is_inside.ensures c.if-not-is_inside.false-raw))
 
 pub shape_of-out-then-role-gt2147483647 : goal.shape_of-out-then-role-gt2147483647
 shape_of-out-then-role-gt2147483647 c = c.loop-count.invariant.0
 
 pub returns-then-role-gt2147483647 : goal.returns-then-role-gt2147483647
-returns-then-role-gt2147483647 c = let stands : let a = c.args in is_record_inside a.buffer.now a.block ≡ true =
-    confirmed c.is_inside.ensures c.if-not-is_inside.false-raw in
-    let run-here : let a = c.args in
-    Run member_item (members_from a.buffer.now a.block) 32 a.most a.first a.from a.out.now c.loop-count.count (state_at c.loop-count.roles c.loop-count.memids c.loop-count.types c.loop-count.sum-bits) c.loop-count.out =
-    let v = c.in-Members.c in
-    let sum = returned w64 {r = v.memids.sum} c.struct_told-1.given.1.0.1 refl in
-    run-from member_item (members_from _ _) 32 (c.in-Members.is ∙ λ i. iter.Members (record { roles = v.roles; memids = record { column = v.memids.column; sum = sym sum i }; types = v.types }))
-    (c.loop-count.invariant.1 _ stands) in
-    run-here
+returns-then-role-gt2147483647 c = run-from member_item (members_from _ _) 32 (by_bits _ c.in-Members.is (returned w64 {r = c.in-Members.c.memids.sum} c.struct_told-1.given.1.0.1 refl)) (c.loop-count.invariant.1 _ (confirmed c.is_inside.ensures c.if-not-is_inside.false-raw))
 
 pub shape_of-out-then-kind-gt2 : goal.shape_of-out-then-kind-gt2
 shape_of-out-then-kind-gt2 c = c.loop-count.invariant.0
 
 pub returns-then-kind-gt2 : goal.returns-then-kind-gt2
-returns-then-kind-gt2 c = let stands : let a = c.args in is_record_inside a.buffer.now a.block ≡ true =
-    confirmed c.is_inside.ensures c.if-not-is_inside.false-raw in
-    let run-here : let a = c.args in
-    Run member_item (members_from a.buffer.now a.block) 32 a.most a.first a.from a.out.now c.loop-count.count (state_at c.loop-count.roles c.loop-count.memids c.loop-count.types c.loop-count.sum-bits) c.loop-count.out =
-    let v = c.in-Members.c in
-    let sum = returned w64 {r = v.memids.sum} c.struct_told-1.given.1.0.1 refl in
-    run-from member_item (members_from _ _) 32 (c.in-Members.is ∙ λ i. iter.Members (record { roles = v.roles; memids = record { column = v.memids.column; sum = sym sum i }; types = v.types }))
-    (c.loop-count.invariant.1 _ stands) in
-    run-here
+returns-then-kind-gt2 c = run-from member_item (members_from _ _) 32 (by_bits _ c.in-Members.is (returned w64 {r = c.in-Members.c.memids.sum} c.struct_told-1.given.1.0.1 refl)) (c.loop-count.invariant.1 _ (confirmed c.is_inside.ensures c.if-not-is_inside.false-raw))

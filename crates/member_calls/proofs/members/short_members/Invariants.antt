@@ -16,7 +16,7 @@ use Rattle.calls.specs.Filling.{Run}
 use Rattle.member_calls.specs.Members.{member_item}
 use Rattle.member_calls.proofs.members.short_members.Given as goal
 
-abbrev state_at : Column → Column → Column → ℤ → RelMemberIter
+abbrev pub state_at : Column → Column → Column → ℤ → RelMemberIter
 state_at roles memids types sum =
     iter.Members (record { roles = roles; memids = record { column = memids; sum = sum }; types = types })
 

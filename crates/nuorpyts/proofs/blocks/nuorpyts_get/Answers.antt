@@ -7,7 +7,6 @@ use Rattle.lookup.specs.Lookup.{get_at}
 use Rattle.nuorpyts.specs.Block.{get_in}
 use Rattle.nuorpyts.proofs.laws.Block.{got_no-record, got_with-record, got_short, got_answer}
 use Rattle.nuorpyts.proofs.laws.Scanned.{get_clauses}
--- where the call was entered
 use Rattle.nuorpyts.proofs.blocks.nuorpyts_get.Goals as goal
 
 pub returns-then-out-lt16 : goal.returns-then-out-lt16

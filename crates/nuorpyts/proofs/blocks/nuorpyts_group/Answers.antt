@@ -7,7 +7,6 @@ use Rattle.answers.proofs.laws.Codes.{answer-short, answer-refused, answer-kept}
 use Rattle.nuorpyts.specs.Block.{group_in}
 use Rattle.nuorpyts.proofs.laws.Block.{group-no-record, group-with-record}
 use Rattle.nuorpyts.proofs.laws.Scanned.{group_clauses}
--- where the call was entered
 use Rattle.nuorpyts.proofs.blocks.nuorpyts_group.Goals as goal
 
 pub returns-then-out-lt16 : goal.returns-then-out-lt16

@@ -8,7 +8,6 @@ use Rattle.answers.specs.Record.{record_words}
 use Rattle.answers.proofs.laws.Codes.{too_short, long_enough, answer-short, answer-refused, answer-kept}
 use Rattle.nuorpyts.proofs.laws.Scanned.{thirteen}
 use Rattle.nuorpyts.specs.Block.{scan_after}
--- where there is room for the record, the buffer is what the scan left
 use Rattle.nuorpyts.proofs.blocks.nuorpyts_scan.Goals as goal
 
 pub returns-then-out-lt72 : goal.returns-then-out-lt72

@@ -3,7 +3,6 @@ use mathlib.Core.Path.{refl}
 use Rattle.protobuf.proofs.laws.Read.{says}
 use Rattle.answers.specs.Record.{record_of}
 use Rattle.nuorpyts.proofs.laws.Same.{same-short, first-no-record, second-no-record, with_records}
--- where the call was entered, and the first record's reading
 use Rattle.nuorpyts.proofs.listings.nuorpyts_same_listing.Goals as goal
 
 pub returns-then-out-lt8 : goal.returns-then-out-lt8

@@ -13,7 +13,6 @@ use Rattle.nuorpyts.specs.Walks.{role_in}
 use Rattle.nuorpyts.proofs.laws.Block.{got_no-record, got_with-record, got_short, got_answer}
 use Rattle.nuorpyts.proofs.laws.Scanned.{role_clauses}
 use Rattle.nuorpyts.proofs.laws.Walks.{role-wide, role-narrow}
--- where the call was entered
 use Rattle.nuorpyts.proofs.sub_walks.nuorpyts_role.Goals as goal
 
 pub returns-then-out-lt16 : goal.returns-then-out-lt16

@@ -9,7 +9,6 @@ use Rattle.same.specs.Compared.{compared_of}
 use Rattle.same.specs.Members.{same_roles}
 use Rattle.same.proofs.laws.Compared.{goes_on, stops}
 use Rattle.same.proofs.laws.Members.{roles-first}
--- the roles that were compared are those of the two members
 use Rattle.same.proofs.members.same_member.Goals as goal
 
 pub returns-in_default : goal.returns-in_default

@@ -12,55 +12,27 @@ use Rattle.same.proofs.members.same_members.Goals as goal
 
 pub returns-in_default : goal.returns-in_default
 returns-in_default c =
-    let stepped : let s = c.args in
-    InStep (same_member s.first.now s.a s.second.now s.b)
-    (members_from s.first.now s.a s.x)
-    (members_from s.second.now s.b s.y)
-    (member_said s.first.now s.a c.step-p.result)
-    (member_said s.second.now s.b c.step-q.result) =
-    both_step c.loop-member.invariant c.step-p.ensures.says c.step-q.ensures.says in
     let p = c.step-p.result in
-    first_ends stepped (member-says _ _ p) (member-says _ _ c.step-q.result) (member_silent p c.in_default.not-Member)
+    first_ends (both_step c.loop-member.invariant c.step-p.ensures.says c.step-q.ensures.says) (member-says _ _ p) (member-says _ _ c.step-q.result) (member_silent p c.in_default.not-Member)
     c.turn.ensures c.turn-in_default.ensures c.ends.ensures
 
 pub returns-in_default-q : goal.returns-in_default-q
 returns-in_default-q c =
-    let stepped : let s = c.args in
-    InStep (same_member s.first.now s.a s.second.now s.b)
-    (members_from s.first.now s.a s.x)
-    (members_from s.second.now s.b s.y)
-    (member_said s.first.now s.a c.step-p.result)
-    (member_said s.second.now s.b c.step-q.result) =
-    both_step c.loop-member.invariant c.step-p.ensures.says c.step-q.ensures.says in
     let q = c.step-q.result in
-    second-ends stepped (ap (member_said _ _) c.in-Member.is) (member-says _ _ q) (member_silent q c.in_default-q.not-Member)
+    second-ends (both_step c.loop-member.invariant c.step-p.ensures.says c.step-q.ensures.says) (ap (member_said _ _) c.in-Member.is) (member-says _ _ q) (member_silent q c.in_default-q.not-Member)
     c.turn-in_default-q.ensures c.ends-in_default-q.ensures
 
 pub returns-in_default-compared : goal.returns-in_default-compared
 returns-in_default-compared c =
-    let stepped : let s = c.args in
-    InStep (same_member s.first.now s.a s.second.now s.b)
-    (members_from s.first.now s.a s.x)
-    (members_from s.second.now s.b s.y)
-    (member_said s.first.now s.a c.step-p.result)
-    (member_said s.second.now s.b c.step-q.result) =
-    both_step c.loop-member.invariant c.step-p.ensures.says c.step-q.ensures.says in
     stops c.same_member-compared.result _ c.in_default-compared.not-Same c.same_member-compared.ensures
-    ∙ both_hand stepped (ap (member_said _ _) c.in-Member.is) (ap (member_said _ _) c.in-Member-q.is)
+    ∙ both_hand (both_step c.loop-member.invariant c.step-p.ensures.says c.step-q.ensures.says) (ap (member_said _ _) c.in-Member.is) (ap (member_said _ _) c.in-Member-q.is)
 
 pub loop-member-smaller : goal.loop-member-smaller
 loop-member-smaller c = more_shortens (says (member_said _ _) c.step-p.ensures.says c.in-Member.is)
 
 pub loop-member-preserved : goal.loop-member-preserved
 loop-member-preserved c =
-    let stepped : let s = c.args in
-    InStep (same_member s.first.now s.a s.second.now s.b)
-    (members_from s.first.now s.a s.x)
-    (members_from s.second.now s.b s.y)
-    (member_said s.first.now s.a c.step-p.result)
-    (member_said s.second.now s.b c.step-q.result) =
-    both_step c.loop-member.invariant c.step-p.ensures.says c.step-q.ensures.says in
-    two-same stepped (ap (member_said _ _) c.in-Member.is) (ap (member_said _ _) c.in-Member-q.is)
+    two-same (both_step c.loop-member.invariant c.step-p.ensures.says c.step-q.ensures.says) (ap (member_said _ _) c.in-Member.is) (ap (member_said _ _) c.in-Member-q.is)
     (says compared_of c.same_member-compared.ensures c.in-Same.is)
 
 pub loop-member-init : goal.loop-member-init

@@ -14,42 +14,21 @@ use Rattle.same.proofs.references.same_refs.Goals as goal
 
 pub returns-in_default : goal.returns-in_default
 returns-in_default c =
-    let stepped : let s = c.args in
-    InStep (λ i j. kept (same_number i j))
-    (refs_from s.first.now s.x)
-    (refs_from s.second.now s.y)
-    (ref_said s.first.now c.step-p.result)
-    (ref_said s.second.now c.step-q.result) =
-    both_step c.loop-id.invariant c.step-p.ensures.says c.step-q.ensures.says in
     let p = c.step-p.result in
-    first_ends stepped (ref-says _ p) (ref-says _ c.step-q.result) (ref_silent p c.in_default.not-Ref)
+    first_ends (both_step c.loop-id.invariant c.step-p.ensures.says c.step-q.ensures.says) (ref-says _ p) (ref-says _ c.step-q.result) (ref_silent p c.in_default.not-Ref)
     c.turn.ensures c.turn-in_default.ensures c.ends.ensures
 
 pub returns-in_default-q : goal.returns-in_default-q
 returns-in_default-q c =
-    let stepped : let s = c.args in
-    InStep (λ i j. kept (same_number i j))
-    (refs_from s.first.now s.x)
-    (refs_from s.second.now s.y)
-    (ref_said s.first.now c.step-p.result)
-    (ref_said s.second.now c.step-q.result) =
-    both_step c.loop-id.invariant c.step-p.ensures.says c.step-q.ensures.says in
     let q = c.step-q.result in
-    second-ends stepped (ap (ref_said _) c.in-Ref.is) (ref-says _ q) (ref_silent q c.in_default-q.not-Ref)
+    second-ends (both_step c.loop-id.invariant c.step-p.ensures.says c.step-q.ensures.says) (ap (ref_said _) c.in-Ref.is) (ref-says _ q) (ref_silent q c.in_default-q.not-Ref)
     c.turn-in_default-q.ensures c.ends-in_default-q.ensures
 
 pub returns-then-not-same_i64 : goal.returns-then-not-same_i64
 returns-then-not-same_i64 c =
-    let stepped : let s = c.args in
-    InStep (λ i j. kept (same_number i j))
-    (refs_from s.first.now s.x)
-    (refs_from s.second.now s.y)
-    (ref_said s.first.now c.step-p.result)
-    (ref_said s.second.now c.step-q.result) =
-    both_step c.loop-id.invariant c.step-p.ensures.says c.step-q.ensures.says in
     let compared : c.same_i64.result ≡ same_number c.in-Ref.id c.in-Ref-q.other =
     held_same w64 c.in-Ref.id c.in-Ref-q.other c.in-Ref.known_told-1-own.given.0.1 c.in-Ref-q.known_told-in-Ref-q-1-own.given.0.1 c.same_i64.ensures in
-    two-differ stepped (ap (ref_said _) c.in-Ref.is) (ap (ref_said _) c.in-Ref-q.is)
+    two-differ (both_step c.loop-id.invariant c.step-p.ensures.says c.step-q.ensures.says) (ap (ref_said _) c.in-Ref.is) (ap (ref_said _) c.in-Ref-q.is)
     (ap kept (refuted compared c.if-not-same_i64.true-raw))
 
 pub loop-id-smaller : goal.loop-id-smaller
@@ -57,16 +36,9 @@ loop-id-smaller c = more_shortens (says (ref_said _) c.step-p.ensures.says c.in-
 
 pub loop-id-preserved : goal.loop-id-preserved
 loop-id-preserved c =
-    let stepped : let s = c.args in
-    InStep (λ i j. kept (same_number i j))
-    (refs_from s.first.now s.x)
-    (refs_from s.second.now s.y)
-    (ref_said s.first.now c.step-p.result)
-    (ref_said s.second.now c.step-q.result) =
-    both_step c.loop-id.invariant c.step-p.ensures.says c.step-q.ensures.says in
     let compared : c.same_i64.result ≡ same_number c.in-Ref.id c.in-Ref-q.other =
     held_same w64 c.in-Ref.id c.in-Ref-q.other c.in-Ref.known_told-1-own.given.0.1 c.in-Ref-q.known_told-in-Ref-q-1-own.given.0.1 c.same_i64.ensures in
-    two-same stepped (ap (ref_said _) c.in-Ref.is) (ap (ref_said _) c.in-Ref-q.is)
+    two-same (both_step c.loop-id.invariant c.step-p.ensures.says c.step-q.ensures.says) (ap (ref_said _) c.in-Ref.is) (ap (ref_said _) c.in-Ref-q.is)
     (ap kept (confirmed compared c.if-not-same_i64.false-raw))
 
 pub loop-id-init : goal.loop-id-init

@@ -13,28 +13,14 @@ use Rattle.same.proofs.tags.same_tags.Goals as goal
 
 pub returns-in_default : goal.returns-in_default
 returns-in_default c =
-    let stepped : let s = c.args in
-    InStep (same_tag s.first.now s.a s.second.now s.b)
-    (tags_from s.first.now s.a s.x)
-    (tags_from s.second.now s.b s.y)
-    (tag_said s.first.now s.a c.step-p.result)
-    (tag_said s.second.now s.b c.step-q.result) =
-    both_step c.loop-tag.invariant c.step-p.ensures.says c.step-q.ensures.says in
     let p = c.step-p.result in
-    first_ends stepped (tag-says _ _ p) (tag-says _ _ c.step-q.result) (tag_silent p c.in_default.not-Tag)
+    first_ends (both_step c.loop-tag.invariant c.step-p.ensures.says c.step-q.ensures.says) (tag-says _ _ p) (tag-says _ _ c.step-q.result) (tag_silent p c.in_default.not-Tag)
     c.turn.ensures c.turn-in_default.ensures c.ends.ensures
 
 pub returns-in_default-q : goal.returns-in_default-q
 returns-in_default-q c =
-    let stepped : let s = c.args in
-    InStep (same_tag s.first.now s.a s.second.now s.b)
-    (tags_from s.first.now s.a s.x)
-    (tags_from s.second.now s.b s.y)
-    (tag_said s.first.now s.a c.step-p.result)
-    (tag_said s.second.now s.b c.step-q.result) =
-    both_step c.loop-tag.invariant c.step-p.ensures.says c.step-q.ensures.says in
     let q = c.step-q.result in
-    second-ends stepped (ap (tag_said _ _) c.in-Tag.is) (tag-says _ _ q) (tag_silent q c.in_default-q.not-Tag)
+    second-ends (both_step c.loop-tag.invariant c.step-p.ensures.says c.step-q.ensures.says) (ap (tag_said _ _) c.in-Tag.is) (tag-says _ _ q) (tag_silent q c.in_default-q.not-Tag)
     c.turn-in_default-q.ensures c.ends-in_default-q.ensures
 
 pub same_tag-requires : goal.same_tag-requires
@@ -46,14 +32,7 @@ same_tag-requires c =
 
 pub returns-then-not-same_tag : goal.returns-then-not-same_tag
 returns-then-not-same_tag c =
-    let stepped : let s = c.args in
-    InStep (same_tag s.first.now s.a s.second.now s.b)
-    (tags_from s.first.now s.a s.x)
-    (tags_from s.second.now s.b s.y)
-    (tag_said s.first.now s.a c.step-p.result)
-    (tag_said s.second.now s.b c.step-q.result) =
-    both_step c.loop-tag.invariant c.step-p.ensures.says c.step-q.ensures.says in
-    two-differ stepped (ap (tag_said _ _) c.in-Tag.is) (ap (tag_said _ _) c.in-Tag-q.is)
+    two-differ (both_step c.loop-tag.invariant c.step-p.ensures.says c.step-q.ensures.says) (ap (tag_said _ _) c.in-Tag.is) (ap (tag_said _ _) c.in-Tag-q.is)
     (ap kept (refuted c.same_tag.ensures c.if-not-same_tag.true-raw))
 
 pub loop-tag-smaller : goal.loop-tag-smaller
@@ -61,14 +40,7 @@ loop-tag-smaller c = more_shortens (says (tag_said _ _) c.step-p.ensures.says c.
 
 pub loop-tag-preserved : goal.loop-tag-preserved
 loop-tag-preserved c =
-    let stepped : let s = c.args in
-    InStep (same_tag s.first.now s.a s.second.now s.b)
-    (tags_from s.first.now s.a s.x)
-    (tags_from s.second.now s.b s.y)
-    (tag_said s.first.now s.a c.step-p.result)
-    (tag_said s.second.now s.b c.step-q.result) =
-    both_step c.loop-tag.invariant c.step-p.ensures.says c.step-q.ensures.says in
-    two-same stepped (ap (tag_said _ _) c.in-Tag.is) (ap (tag_said _ _) c.in-Tag-q.is)
+    two-same (both_step c.loop-tag.invariant c.step-p.ensures.says c.step-q.ensures.says) (ap (tag_said _ _) c.in-Tag.is) (ap (tag_said _ _) c.in-Tag-q.is)
     (ap kept (confirmed c.same_tag.ensures c.if-not-same_tag.false-raw))
 
 pub loop-tag-init : goal.loop-tag-init

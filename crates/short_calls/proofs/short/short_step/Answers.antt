@@ -13,7 +13,6 @@ use Rattle.kinds.proofs.laws.Short.{Word}
 use Rattle.answers.specs.Words.{filled}
 use Rattle.walk_slots.specs.Slot.{nodes_at}
 use Rattle.short_calls.proofs.laws.Short.{short_call}
--- the words of the row, and that there are no pairs
 use Rattle.short_calls.proofs.short.short_step.Goals as goal
 
 pub put_behind-requires : goal.put_behind-requires

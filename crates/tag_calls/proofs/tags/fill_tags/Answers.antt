@@ -17,68 +17,50 @@ pub short_tags-run-requires : goal.short_tags-run-requires
 short_tags-run-requires c = omega arith
 
 pub shape_of-out-then-run-most : goal.shape_of-out-then-run-most
-shape_of-out-then-run-most c = let filled-run : let a = c.args in
-    Filling tag_item (tags_from a.buffer.now a.block) 48 (tags_from a.buffer.now a.block a.start) a.out.now a.most c.short_tags-run.result.count c.short_tags-run.result.next c.short_tags-run.new.out =
-    c.short_tags-run.ensures.keeps _ _ c.loop-count.invariant in
-    filled-run.long
+shape_of-out-then-run-most c =
+    (c.short_tags-run.ensures.keeps _ _ c.loop-count.invariant).long
 
 pub returns-then-run-most : goal.returns-then-run-most
-returns-then-run-most c = let filled-run : let a = c.args in
-    Filling tag_item (tags_from a.buffer.now a.block) 48 (tags_from a.buffer.now a.block a.start) a.out.now a.most c.short_tags-run.result.count c.short_tags-run.result.next c.short_tags-run.new.out =
-    c.short_tags-run.ensures.keeps _ _ c.loop-count.invariant in
-    fill_full _ _ 48 filled-run iter.Ended (omega arith) c.tags_behind.ensures
+returns-then-run-most c =
+    fill_full _ _ 48 (c.short_tags-run.ensures.keeps _ _ c.loop-count.invariant) iter.Ended (omega arith) c.tags_behind.ensures
 
 pub shape_of-out-then-has_ended : goal.shape_of-out-then-has_ended
-shape_of-out-then-has_ended c = let filled-run : let a = c.args in
-    Filling tag_item (tags_from a.buffer.now a.block) 48 (tags_from a.buffer.now a.block a.start) a.out.now a.most c.short_tags-run.result.count c.short_tags-run.result.next c.short_tags-run.new.out =
-    c.short_tags-run.ensures.keeps _ _ c.loop-count.invariant in
-    filled-run.long
+shape_of-out-then-has_ended c =
+    (c.short_tags-run.ensures.keeps _ _ c.loop-count.invariant).long
 
 pub returns-then-has_ended : goal.returns-then-has_ended
-returns-then-has_ended c = let filled-run : let a = c.args in
-    Filling tag_item (tags_from a.buffer.now a.block) 48 (tags_from a.buffer.now a.block a.start) a.out.now a.most c.short_tags-run.result.count c.short_tags-run.result.next c.short_tags-run.new.out =
-    c.short_tags-run.ensures.keeps _ _ c.loop-count.invariant in
-    let p = filled-run in
+returns-then-has_ended c =
+    let p = c.short_tags-run.ensures.keeps _ _ c.loop-count.invariant in
     fill_ended _ _ 48 p iter.Ended (omega arith) (c.has_ended.ensures c.if-has_ended.true) c.tags_behind-then-has_ended.ensures
 
 pub overflow_mul-run : goal.overflow_mul-run
-overflow_mul-run c = let filled-run : let a = c.args in
-    Filling tag_item (tags_from a.buffer.now a.block) 48 (tags_from a.buffer.now a.block a.start) a.out.now a.most c.short_tags-run.result.count c.short_tags-run.result.next c.short_tags-run.new.out =
-    c.short_tags-run.ensures.keeps _ _ c.loop-count.invariant in
-    let p = filled-run in omega arith
+overflow_mul-run c =
+    let p = c.short_tags-run.ensures.keeps _ _ c.loop-count.invariant in
+    omega arith
 
 pub shape_of-out-then-r-ne0 : goal.shape_of-out-then-r-ne0
-shape_of-out-then-r-ne0 c = let filled-run : let a = c.args in
-    Filling tag_item (tags_from a.buffer.now a.block) 48 (tags_from a.buffer.now a.block a.start) a.out.now a.most c.short_tags-run.result.count c.short_tags-run.result.next c.short_tags-run.new.out =
-    c.short_tags-run.ensures.keeps _ _ c.loop-count.invariant in
-    let p = filled-run in c.put_tag-r.auto.out ∙ p.long
+shape_of-out-then-r-ne0 c =
+    let p = c.short_tags-run.ensures.keeps _ _ c.loop-count.invariant in
+    c.put_tag-r.auto.out ∙ p.long
 
 pub returns-then-r-ne0 : goal.returns-then-r-ne0
-returns-then-r-ne0 c = let filled-run : let a = c.args in
-    Filling tag_item (tags_from a.buffer.now a.block) 48 (tags_from a.buffer.now a.block a.start) a.out.now a.most c.short_tags-run.result.count c.short_tags-run.result.next c.short_tags-run.new.out =
-    c.short_tags-run.ensures.keeps _ _ c.loop-count.invariant in
-    let p = filled-run in
+returns-then-r-ne0 c =
+    let p = c.short_tags-run.ensures.keeps _ _ c.loop-count.invariant in
     fill_ends _ _ 48 p iter.Ended (omega arith) c.put_tag-r.ensures c.if-r-ne0.true c.tags_behind-then-r-ne0.ensures
 
 pub overflow_add-count : goal.overflow_add-count
-overflow_add-count c = let filled-run : let a = c.args in
-    Filling tag_item (tags_from a.buffer.now a.block) 48 (tags_from a.buffer.now a.block a.start) a.out.now a.most c.short_tags-run.result.count c.short_tags-run.result.next c.short_tags-run.new.out =
-    c.short_tags-run.ensures.keeps _ _ c.loop-count.invariant in
-    let p = filled-run in
+overflow_add-count c =
+    let p = c.short_tags-run.ensures.keeps _ _ c.loop-count.invariant in
     omega (arith, c.ranges.most)
 
 pub loop-count-smaller : goal.loop-count-smaller
-loop-count-smaller c = let filled-run : let a = c.args in
-    Filling tag_item (tags_from a.buffer.now a.block) 48 (tags_from a.buffer.now a.block a.start) a.out.now a.most c.short_tags-run.result.count c.short_tags-run.result.next c.short_tags-run.new.out =
-    c.short_tags-run.ensures.keeps _ _ c.loop-count.invariant in
-    let p = filled-run in
+loop-count-smaller c =
+    let p = c.short_tags-run.ensures.keeps _ _ c.loop-count.invariant in
     omega (arith, c.short_tags-run.ensures.onward)
 
 pub loop-count-preserved : goal.loop-count-preserved
-loop-count-preserved c = let filled-run : let a = c.args in
-    Filling tag_item (tags_from a.buffer.now a.block) 48 (tags_from a.buffer.now a.block a.start) a.out.now a.most c.short_tags-run.result.count c.short_tags-run.result.next c.short_tags-run.new.out =
-    c.short_tags-run.ensures.keeps _ _ c.loop-count.invariant in
-    let p = filled-run in
+loop-count-preserved c =
+    let p = c.short_tags-run.ensures.keeps _ _ c.loop-count.invariant in
     fill_on _ _ 48 p (λ x. lit≤ tt) (omega arith) c.put_tag-r.ensures c.if-r-ne0.false
 
 pub shape_of-out : goal.shape_of-out

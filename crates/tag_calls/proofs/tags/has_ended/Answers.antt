@@ -6,7 +6,6 @@ use Rattle.fields.proofs.laws.Part.{confirmed}
 use Rattle.lookup.specs.Lookup.{is_record_inside}
 use Rattle.elements.specs.Tags.{tags_from}
 use Rattle.tag_calls.proofs.laws.Ended.{columns-ended, pairs-ended, zero-ends}
--- the record is inside, where it was tested
 use Rattle.tag_calls.proofs.tags.has_ended.Goals as goal
 
 pub returns-then-not-is_inside : goal.returns-then-not-is_inside

@@ -7,9 +7,9 @@ use lib.Dec.{leb}
 use lib.ListN.{length}
 use Rattle.fields.proofs.laws.Part.{confirmed}
 use Rattle.answers.specs.Words.{filled_at}
--- the entries of both numbers, as they were read
 use Rattle.tag_calls.proofs.tags.put_texts.Goals as goal
 
+-- the entries of both numbers, as they were read
 pub returns : goal.returns
 returns c =
     let a = c.args in

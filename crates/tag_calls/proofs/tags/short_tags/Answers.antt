@@ -6,7 +6,6 @@ use Rattle.lookup.specs.Lookup.{is_record_inside}
 use Rattle.elements.specs.Tags.{tags_from}
 use Rattle.tag_calls.specs.Tags.{tag_item}
 use Rattle.calls.proofs.laws.Calls.{run-from}
--- the record is inside, where it was tested
 use Rattle.tag_calls.proofs.tags.short_tags.Goals as goal
 
 pub short_columns-requires : goal.short_columns-requires

@@ -7,12 +7,10 @@ use Rattle.kinds.specs.Said.{dense_step_inside}
 use Rattle.walk.proofs.laws.Walking.{walk_begins, turn_says, turn_nearer, turn_on_lem, not-dense, dense-refuses, dense-says, dense_nearer, dense-on}
 use Rattle.walk.proofs.block_elements.advance.Goals as goal
 
--- ---- among plain dense nodes
-
--- ---- in any other state
-
 pub loop-state-init : goal.loop-state-init
 loop-state-init c = walk_begins c.requires.1
+
+-- ---- among plain dense nodes
 
 pub returns-in-Node : goal.returns-in-Node
 returns-in-Node c = let said = dense-says c.loop-state.invariant c.in-DenseNodes.is c.in-Node.next c.requires.0 (sym (ap (dense_step_inside c.args.buffer.now) c.in-Node.is) ∙ c.next_dense-d.ensures.inside) c.say_dense.ensures (says (dense_said c.args.buffer.now c.in-DenseNodes.nodes.columns) c.next_dense-d.ensures.says c.in-Node.is) in record { says = said.0; behind = said.1 }
@@ -25,6 +23,8 @@ loop-state-preserved-in-Ended c = dense-on c.loop-state.invariant c.in-DenseNode
 
 pub returns-in-Refused : goal.returns-in-Refused
 returns-in-Refused c = let said = dense-refuses c.loop-state.invariant c.in-DenseNodes.is c.refuse.ensures (says (dense_said c.args.buffer.now c.in-DenseNodes.nodes.columns) c.next_dense-d.ensures.says c.in-Refused.is) in record { says = said.0; behind = said.1 }
+
+-- ---- in any other state
 
 pub turn-m-requires : goal.turn-m-requires
 turn-m-requires c = (c.requires.0, c.loop-state.invariant.inside)

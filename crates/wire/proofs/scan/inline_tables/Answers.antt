@@ -7,7 +7,6 @@ use borrow.Author.Tests.{leb-true, leb-false}
 use Rattle.fields.specs.Outcome.{kept, each}
 use Rattle.wire.specs.Scan.{meta, after_scan}
 use Rattle.wire.proofs.laws.Scan.{no_room, with-room, strings-room, groups-room, both-written}
--- both tables have room behind the block
 use Rattle.wire.proofs.scan.inline_tables.Goals as goal
 
 pub write_entries-requires : goal.write_entries-requires
