@@ -23,24 +23,21 @@ returns-then-not-part_fits c = let a = c.args in
     let said = answer-refused 1 kind_words a.out.now (omega arith) (kind-outside a.buffer.now a.start a.len (refuted c.part_fits.ensures c.if-not-part_fits.true-raw)) refl in record { code = said.0; after = said.1 }
 
 pub overflow_add-end : goal.overflow_add-end
-overflow_add-end c = let inside : let a = c.args in leb (a.start + a.len) (length a.buffer.now) ≡ true =
-    confirmed c.part_fits.ensures c.if-not-part_fits.false-raw in
+overflow_add-end c =
     let within : let a = c.args in a.start + a.len ≤ length a.buffer.now =
-    leb-true _ _ inside in
+    leb-true _ _ (confirmed c.part_fits.ensures c.if-not-part_fits.false-raw) in
     omega (arith, within)
 
 pub slice_bounds-classify_group-end : goal.slice_bounds-classify_group-end
-slice_bounds-classify_group-end c = let inside : let a = c.args in leb (a.start + a.len) (length a.buffer.now) ≡ true =
-    confirmed c.part_fits.ensures c.if-not-part_fits.false-raw in
+slice_bounds-classify_group-end c =
     let within : let a = c.args in a.start + a.len ≤ length a.buffer.now =
-    leb-true _ _ inside in
+    leb-true _ _ (confirmed c.part_fits.ensures c.if-not-part_fits.false-raw) in
     omega (arith, within)
 
 pub returns : goal.returns
-returns c = let inside : let a = c.args in leb (a.start + a.len) (length a.buffer.now) ≡ true =
-    confirmed c.part_fits.ensures c.if-not-part_fits.false-raw in
+returns c =
     let a = c.args in
     let said = answer-kept 1 kind_words a.out.now (omega arith)
-    (kind-kept a.buffer.now a.start a.len inside (c.classify_group.ensures ∙ ap block_type (lent_is a.buffer.now a.start a.len)))
+    (kind-kept a.buffer.now a.start a.len (confirmed c.part_fits.ensures c.if-not-part_fits.false-raw) (c.classify_group.ensures ∙ ap block_type (lent_is a.buffer.now a.start a.len)))
     (ap (λ n. n ∷ []) c.kind_number-kind.ensures)
     c.put_numbers.ensures in record { code = said.0; after = said.1 }

@@ -15,19 +15,16 @@ pub returns-then-not-is_at_end : goal.returns-then-not-is_at_end
 returns-then-not-is_at_end c z = absurd (true≢false (sym z))
 
 pub returns-then-wide_value-eq1 : goal.returns-then-wide_value-eq1
-returns-then-wide_value-eq1 c z = let stands : let a = c.args in is_record_inside a.buffer.now a.block ≡ true =
-    confirmed c.is_inside.ensures c.if-not-is_inside.false-raw in
-    ap (tags_from _ _) c.in-KeysVals.is ∙ zero-ends _ _ stands _ c.if-wide_value-eq1.true c.wide_value.ensures
+returns-then-wide_value-eq1 c z =
+    ap (tags_from _ _) c.in-KeysVals.is ∙ zero-ends _ _ (confirmed c.is_inside.ensures c.if-not-is_inside.false-raw) _ c.if-wide_value-eq1.true c.wide_value.ensures
 
 pub returns-in-Ended : goal.returns-in-Ended
 returns-in-Ended c z = ap (tags_from _ _) c.in-Ended.is
 
 pub returns-else-not-is_at_end : goal.returns-else-not-is_at_end
-returns-else-not-is_at_end c z = let stands : let a = c.args in is_record_inside a.buffer.now a.block ≡ true =
-    confirmed c.is_inside.ensures c.if-not-is_inside.false-raw in
-    ap (tags_from _ _) c.in-Columns.is ∙ columns-ended _ _ stands _ (c.is_at_end.ensures.ended (not-false _ c.if-not-is_at_end.false-raw)) (c.is_at_end-in-Columns.ensures.ended z)
+returns-else-not-is_at_end c z =
+    ap (tags_from _ _) c.in-Columns.is ∙ columns-ended _ _ (confirmed c.is_inside.ensures c.if-not-is_inside.false-raw) _ (c.is_at_end.ensures.ended (not-false _ c.if-not-is_at_end.false-raw)) (c.is_at_end-in-Columns.ensures.ended z)
 
 pub returns-else-wide_value-eq1 : goal.returns-else-wide_value-eq1
-returns-else-wide_value-eq1 c z = let stands : let a = c.args in is_record_inside a.buffer.now a.block ≡ true =
-    confirmed c.is_inside.ensures c.if-not-is_inside.false-raw in
-    ap (tags_from _ _) c.in-KeysVals.is ∙ pairs-ended _ _ stands _ (c.is_at_end-in-KeysVals.ensures.ended z)
+returns-else-wide_value-eq1 c z =
+    ap (tags_from _ _) c.in-KeysVals.is ∙ pairs-ended _ _ (confirmed c.is_inside.ensures c.if-not-is_inside.false-raw) _ (c.is_at_end-in-KeysVals.ensures.ended z)

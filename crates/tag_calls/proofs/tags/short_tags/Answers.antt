@@ -9,14 +9,12 @@ use Rattle.calls.proofs.laws.Calls.{run-from}
 use Rattle.tag_calls.proofs.tags.short_tags.Goals as goal
 
 pub short_columns-requires : goal.short_columns-requires
-short_columns-requires c = let stands : let a = c.args in is_record_inside a.buffer.now a.block ≡ true =
-    confirmed c.is_inside.ensures c.if-not-is_inside.false-raw in
-    record { most_in_bounds = c.requires; block_value = stands }
+short_columns-requires c =
+    record { most_in_bounds = c.requires; block_value = (confirmed c.is_inside.ensures c.if-not-is_inside.false-raw) }
 
 pub short_pairs-requires : goal.short_pairs-requires
-short_pairs-requires c = let stands : let a = c.args in is_record_inside a.buffer.now a.block ≡ true =
-    confirmed c.is_inside.ensures c.if-not-is_inside.false-raw in
-    record { most_in_bounds = c.requires; block_value = stands }
+short_pairs-requires c =
+    record { most_in_bounds = c.requires; block_value = (confirmed c.is_inside.ensures c.if-not-is_inside.false-raw) }
 
 pub returns-in-Columns : goal.returns-in-Columns
 returns-in-Columns c = run-from tag_item (tags_from _ _) 48 c.in-Columns.is c.short_columns.ensures
