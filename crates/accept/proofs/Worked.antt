@@ -1,6 +1,6 @@
 -- Worked values: what the check by a buffer and a record says of concrete ones, also of such as no scan left. They are proved by computing, so
 -- a definition that is changed breaks the row of its clause, whatever the code does. Bytes are hexadecimal.
-use Rattle.std.specs.Prelude.{ℕ, ◌≡◌, refl, List, [], ◌∷◌, ◌++◌, pos}
+use Rattle.std.specs.Prelude.{ℕ, ◌≡◌, refl, List, [], ◌∷◌, ◌++◌, pos, Err}
 use Rattle.protobuf.specs.declared.refusal.Refusal.TheVariants.{VarintCut, PastEnd, Counts, Outside}
 use Rattle.protobuf.specs.Read.{and_then}
 use Rattle.protobuf.specs.Varint.{digits, varint}
@@ -10,7 +10,7 @@ use Rattle.protobuf.specs.Stream.{unrolled}
 use Rattle.message.specs.Message.{field_at, message_from}
 use Rattle.protobuf.specs.Column.{value_at, column_from}
 use Rattle.numbers.specs.Little.{little, number_at}
-use Rattle.fields.specs.Outcome.{Outcome, refused, onward, each}
+use Rattle.fields.specs.Outcome.{Outcome, onward, each}
 use Rattle.fields.specs.Parts.{parts_of, messages_of}
 use Rattle.fields.specs.View.{column_part, info_part, put, store, view_from, view}
 use Rattle.groups.specs.Group.{dense_from}
@@ -59,20 +59,20 @@ pub record Worked : Type 0 where
   pub no-groups : checked_in bytes (place 4 0 4 0 4) ≡ passed
   pub one-group : checked_in (bytes ++ entry 0 2) (place 4 0 4 1 4) ≡ passed
   pub named-twice : by_two (entry 0 2) (entry 0 2) ≡ passed
-  pub bad-second : by_two (entry 0 2) (entry 2 2) ≡ refused PastEnd
-  pub first_in_order : by_two (entry 0 1) (entry 2 2) ≡ refused VarintCut
+  pub bad-second : by_two (entry 0 2) (entry 2 2) ≡ Err PastEnd
+  pub first_in_order : by_two (entry 0 1) (entry 2 2) ≡ Err VarintCut
   pub empty-at_the_end : by_two (entry 20 0) (entry 0 2) ≡ passed
   -- 14 first: of the block, of either table, and of every entry before any group is read
-  pub block-outside : checked_in bytes (place 5 0 4 0 4) ≡ refused Outside
-  pub strings-outside : checked_in bytes (place 4 1 4 0 4) ≡ refused Outside
-  pub groups-outside : checked_in (bytes ++ entry 0 2) (place 4 0 4 2 4) ≡ refused Outside
-  pub ranges_before-groups : by_two (entry 2 2) (entry 20 1) ≡ refused Outside
+  pub block-outside : checked_in bytes (place 5 0 4 0 4) ≡ Err Outside
+  pub strings-outside : checked_in bytes (place 4 1 4 0 4) ≡ Err Outside
+  pub groups-outside : checked_in (bytes ++ entry 0 2) (place 4 0 4 2 4) ≡ Err Outside
+  pub ranges_before-groups : by_two (entry 2 2) (entry 20 1) ≡ Err Outside
   -- a message by its tag: node, way, relation; any other passes
-  pub node-by-tag : element_of 10 one_key ≡ refused Counts
+  pub node-by-tag : element_of 10 one_key ≡ Err Counts
   pub node_has_no_eight : element_of 10 cut_eight ≡ passed
-  pub way-by-tag : element_of 26 cut_eight ≡ refused VarintCut
-  pub relation-by-tag : element_of 34 cut_eight ≡ refused VarintCut
-  pub relation-counts : element_of 34 (0x42 ∷ 0x01 ∷ 0x01 ∷ []) ≡ refused Counts
+  pub way-by-tag : element_of 26 cut_eight ≡ Err VarintCut
+  pub relation-by-tag : element_of 34 cut_eight ≡ Err VarintCut
+  pub relation-counts : element_of 34 (0x42 ∷ 0x01 ∷ 0x01 ∷ []) ≡ Err Counts
   pub way-counts : element_of 26 (0x42 ∷ 0x01 ∷ 0x01 ∷ []) ≡ passed
   pub other_tag : element_of 18 one_key ≡ passed
 

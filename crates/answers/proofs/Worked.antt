@@ -1,6 +1,6 @@
 -- Worked values: what the definitions here say of concrete values and bytes, with all fields different. They are proved by computing, so a
 -- definition that is changed breaks a row, whatever the code does. Bytes are hexadecimal.
-use Rattle.std.specs.Prelude.{ℕ, ◌-◌, ◌^◌, ◌≡◌, refl, List, [], ◌∷◌, ◌++◌, take, replicate, ℤ, pos, negsuc}
+use Rattle.std.specs.Prelude.{ℕ, ◌-◌, ◌^◌, ◌≡◌, refl, List, [], ◌∷◌, ◌++◌, take, replicate, ℤ, pos, negsuc, Ok, Err}
 use Rattle.protobuf.specs.declared.refusal.Refusal.TheVariants.{VarintCut, NoRoom, Outside}
 use Rattle.protobuf.specs.Read.{and_then}
 use Rattle.numbers.specs.Little.{little, bytes, number_at}
@@ -11,7 +11,6 @@ use Rattle.message.specs.Payload.{raw_varint, fixed, counted, length_delimited, 
 use Rattle.protobuf.specs.Stream.{unrolled}
 use Rattle.message.specs.Message.{field_at, message_from}
 use Rattle.fields.specs.declared.part.Part.{Part}
-use Rattle.fields.specs.Outcome.{kept, refused}
 use Rattle.fields.specs.Part.{part_by, no_part}
 use Rattle.wire.specs.declared.record.WireBlock.{WireBlock}
 use Rattle.groups.specs.declared.classify.BlockType.TheVariants.{Empty, Nodes, DenseNodes, Ways, Relations, Mixed}
@@ -91,26 +90,26 @@ pub record Worked : Type 0 where
   -- codes: 0, a refusal's number, and 14 first where the answer's slice is too short; the answer is written with 0 alone
   pub code-none : none_code ≡ 100
   pub code-ended : ended_code ≡ 101
-  pub code_success : answer_code 2 (blank 16) (kept (part_by 5 6)) ≡ 0
-  pub code_refusal : answer_code {A = Part} 2 (blank 16) (refused NoRoom) ≡ 13
-  pub code-short : answer_code 2 (blank 15) (kept (part_by 5 6)) ≡ 14
-  pub code-short-first : answer_code {A = Part} 2 (blank 15) (refused VarintCut) ≡ 14
-  pub code-no_slice : code_of (kept (part_by 5 6)) ≡ 0
-  pub code-no_slice_refusal : code_of {A = Part} (refused Outside) ≡ 14
-  pub after_success : answer_after range_words (blank 17) (kept (part_by 5 6)) ≡ words (5 ∷ 6 ∷ []) ++ (0xEE ∷ [])
-  pub after_refusal : answer_after range_words (blank 17) (refused NoRoom) ≡ blank 17
-  pub after-short : answer_after range_words (blank 15) (kept (part_by 5 6)) ≡ blank 15
+  pub code_success : answer_code 2 (blank 16) (Ok (part_by 5 6)) ≡ 0
+  pub code_refusal : answer_code {A = Part} 2 (blank 16) (Err NoRoom) ≡ 13
+  pub code-short : answer_code 2 (blank 15) (Ok (part_by 5 6)) ≡ 14
+  pub code-short-first : answer_code {A = Part} 2 (blank 15) (Err VarintCut) ≡ 14
+  pub code-no_slice : code_of (Ok (part_by 5 6)) ≡ 0
+  pub code-no_slice_refusal : code_of {A = Part} (Err Outside) ≡ 14
+  pub after_success : answer_after range_words (blank 17) (Ok (part_by 5 6)) ≡ words (5 ∷ 6 ∷ []) ++ (0xEE ∷ [])
+  pub after_refusal : answer_after range_words (blank 17) (Err NoRoom) ≡ blank 17
+  pub after-short : answer_after range_words (blank 15) (Ok (part_by 5 6)) ≡ blank 15
   -- a record's numbers, and the record that a slice of 72 bytes or more begins with
   pub record-numbers : record_words (block_by (pos 6) (negsuc 6)) ≡ 1 ∷ 2 ∷ 3 ∷ 4 ∷ 5 ∷ 6 ∷ minus 7 ∷ minus 8 ∷ 9 ∷ []
-  pub record-back : record_in (block_bytes 6 (minus 7)) ≡ kept (block_by (pos 6) (negsuc 6))
-  pub record_longer : record_in (block_bytes 6 (minus 7) ++ (0xEE ∷ [])) ≡ kept (block_by (pos 6) (negsuc 6))
-  pub record-short : record_in (take 71 (block_bytes 6 (minus 7))) ≡ refused Outside
-  pub record-largest : record_in (block_bytes (2 ^ 31 - 1) (2 ^ 31 - 1)) ≡ kept (block_by (pos (2 ^ 31 - 1)) (pos (2 ^ 31 - 1)))
-  pub record-smallest : record_in (block_bytes (minus (2 ^ 31)) (minus (2 ^ 31))) ≡ kept (block_by (negsuc (2 ^ 31 - 1)) (negsuc (2 ^ 31 - 1)))
-  pub granularity_large : record_in (block_bytes (2 ^ 31) 7) ≡ refused Outside
-  pub granularity-small : record_in (block_bytes (minus (2 ^ 31) - 1) 7) ≡ refused Outside
-  pub dategranularity_large : record_in (block_bytes 6 (2 ^ 31)) ≡ refused Outside
-  pub dategranularity-small : record_in (block_bytes 6 (minus (2 ^ 31) - 1)) ≡ refused Outside
+  pub record-back : record_in (block_bytes 6 (minus 7)) ≡ Ok (block_by (pos 6) (negsuc 6))
+  pub record_longer : record_in (block_bytes 6 (minus 7) ++ (0xEE ∷ [])) ≡ Ok (block_by (pos 6) (negsuc 6))
+  pub record-short : record_in (take 71 (block_bytes 6 (minus 7))) ≡ Err Outside
+  pub record-largest : record_in (block_bytes (2 ^ 31 - 1) (2 ^ 31 - 1)) ≡ Ok (block_by (pos (2 ^ 31 - 1)) (pos (2 ^ 31 - 1)))
+  pub record-smallest : record_in (block_bytes (minus (2 ^ 31)) (minus (2 ^ 31))) ≡ Ok (block_by (negsuc (2 ^ 31 - 1)) (negsuc (2 ^ 31 - 1)))
+  pub granularity_large : record_in (block_bytes (2 ^ 31) 7) ≡ Err Outside
+  pub granularity-small : record_in (block_bytes (minus (2 ^ 31) - 1) 7) ≡ Err Outside
+  pub dategranularity_large : record_in (block_bytes 6 (2 ^ 31)) ≡ Err Outside
+  pub dategranularity-small : record_in (block_bytes 6 (minus (2 ^ 31) - 1)) ≡ Err Outside
   -- a part, and the numbers of each view
   pub part-present : part_words (part_by 5 6) ≡ 1 ∷ 5 ∷ 6 ∷ []
   pub part-absent : part_words no_part ≡ 0 ∷ 0 ∷ 0 ∷ []

@@ -1,10 +1,10 @@
 -- What an entry that C calls returns, and what it leaves in the slice that its answer goes to. 0 is success; a refusal is its number, and
 -- none of those is 0; none and ended have codes of their own, above every number that the table may grow to. An answer's slice that is too
 -- short for it gives 14, before anything else. Where the code is not 0, nothing is written there.
-use Rattle.std.specs.Prelude.{ℕ, ◌*◌, List, length, leb}
+use Rattle.std.specs.Prelude.{ℕ, ◌*◌, List, length, leb, Ok, Err}
 use Rattle.numbers.specs.Choose.{choose}
 use Rattle.protobuf.specs.Refusal.{number}
-use Rattle.fields.specs.Outcome.{Outcome, kept, refused}
+use Rattle.fields.specs.Outcome.{Outcome}
 use Rattle.answers.specs.Words.{filled}
 
 abbrev pub none_code : ℕ
@@ -14,8 +14,8 @@ abbrev pub ended_code : ℕ
 ended_code = 101
 
 abbrev pub code_of : {A : Type 0} → Outcome A → ℕ
-code_of (kept a) = 0
-code_of (refused r) = number r
+code_of (Ok a) = 0
+code_of (Err r) = number r
 
 -- an answer of n numbers
 abbrev pub answer_code : {A : Type 0} → ℕ → List ℕ → Outcome A → ℕ
@@ -23,5 +23,5 @@ answer_code n out x = choose (leb (8 * n) (length out)) (code_of x) 14
 
 -- f gives the numbers of what was kept
 abbrev pub answer_after : {A : Type 0} → (A → List ℕ) → List ℕ → Outcome A → List ℕ
-answer_after f out (kept a) = filled out (f a)
-answer_after f out (refused r) = out
+answer_after f out (Ok a) = filled out (f a)
+answer_after f out (Err r) = out

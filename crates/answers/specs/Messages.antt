@@ -2,16 +2,16 @@
 -- state gives 14, and an ended one 101 before the answer's slice or the buffer are looked at; both are left as they are. Any other slot then
 -- holds the state that the step hands back: the one behind the message, or the ended one after 101 and 14. The answer's slice is written
 -- with 0 alone.
-use Rattle.std.specs.Prelude.{ℕ, List, length, leb}
+use Rattle.std.specs.Prelude.{ℕ, List, length, leb, Option, Some, None, Ok, Err}
 use Rattle.protobuf.specs.declared.refusal.Refusal.TheVariants.{Outside}
 use Rattle.numbers.specs.Choose.{choose}
 use Rattle.protobuf.specs.Refusal.{number}
+use Rattle.fields.specs.declared.part.Part.{Part}
+use Rattle.fields.specs.Outcome.{Outcome}
+use Rattle.fields.specs.Step.{at_end, refused}
 use Rattle.groups.specs.declared.group.MessagePlace.{MessagePlace}
-use Rattle.groups.specs.declared.group.WireMessageIter.{WireMessageIter}
 use Rattle.groups.specs.declared.group.WireMessageIter.TheVariants as iter
-use Rattle.groups.specs.declared.group.MessageStep.{MessageStep}
-use Rattle.groups.specs.declared.group.MessageStep.TheVariants as step
-use Rattle.groups.specs.Group.{message_at}
+use Rattle.groups.specs.Group.{MessageStep, message_at}
 use Rattle.answers.specs.declared.group.MessagesIn.{MessagesIn}
 use Rattle.answers.specs.declared.group.MessagesIn.TheVariants as slot
 use Rattle.answers.specs.Words.{filled}
@@ -21,35 +21,36 @@ use Rattle.answers.specs.Group.{iter_words, messages_in}
 
 -- from a place: 14 where the answer's slice is too short for a part
 abbrev pub place_asked : List ℕ → List ℕ → MessagePlace → MessageStep
-place_asked buffer out m = choose (leb 24 (length out)) (message_at buffer m) (step.Refused Outside iter.Ended)
+place_asked buffer out m = choose (leb 24 (length out)) (message_at buffer m) (refused Outside iter.Ended)
 
 abbrev pub asked_by : List ℕ → List ℕ → MessagesIn → MessageStep
-asked_by buffer out slot.Short = step.Refused Outside iter.Ended
-asked_by buffer out slot.Outside = step.Refused Outside iter.Ended
-asked_by buffer out slot.Ended = step.Ended iter.Ended
+asked_by buffer out slot.Short = refused Outside iter.Ended
+asked_by buffer out slot.Outside = refused Outside iter.Ended
+asked_by buffer out slot.Ended = at_end iter.Ended
 asked_by buffer out (slot.At m) = place_asked buffer out m
 
 abbrev pub message_asked : List ℕ → List ℕ → List ℕ → MessageStep
 message_asked buffer state out = asked_by buffer out (messages_in state)
 
+-- by what the step says
+abbrev pub said_code : Outcome (Option Part) → ℕ
+said_code (Ok (Some part)) = 0
+said_code (Ok None) = ended_code
+said_code (Err r) = number r
+
+abbrev pub said_out : List ℕ → Outcome (Option Part) → List ℕ
+said_out out (Ok (Some part)) = filled out (part_words part)
+said_out out (Ok None) = out
+said_out out (Err r) = out
+
 abbrev pub message_code : MessageStep → ℕ
-message_code (step.Message part next) = 0
-message_code (step.Ended next) = ended_code
-message_code (step.Refused r next) = number r
+message_code answer = said_code answer.said
 
 abbrev pub message_out : List ℕ → MessageStep → List ℕ
-message_out out (step.Message part next) = filled out (part_words part)
-message_out out (step.Ended next) = out
-message_out out (step.Refused r next) = out
-
--- the state that is handed back
-abbrev pub handed_back : MessageStep → WireMessageIter
-handed_back (step.Message part next) = next
-handed_back (step.Ended next) = next
-handed_back (step.Refused r next) = next
+message_out out answer = said_out out answer.said
 
 abbrev pub step_state : List ℕ → MessageStep → List ℕ
-step_state state answer = filled state (iter_words (handed_back answer))
+step_state state answer = filled state (iter_words answer.next)
 
 abbrev pub slot_after : List ℕ → MessageStep → MessagesIn → List ℕ
 slot_after state answer slot.Short = state

@@ -1,13 +1,11 @@
 -- The record of a scanned block through C: 9 numbers in a slice, written and read back.
-use Rattle.std.specs.Prelude.{ℕ, List, [], ◌∷◌, length, leb}
+use Rattle.std.specs.Prelude.{ℕ, List, [], ◌∷◌, length, leb, Ok, Err}
 use Rattle.protobuf.specs.declared.refusal.Refusal.TheVariants.{Outside}
 use Rattle.numbers.specs.Choose.{choose}
 use Rattle.numbers.specs.Little.{number_at}
 use Rattle.numbers.specs.Signed.{twos, is_int32}
 use Rattle.wire.specs.declared.record.WireBlock.{WireBlock}
-use Rattle.fields.specs.Outcome.{Outcome, kept, refused}
-use Rattle.answers.specs.declared.record.RecordIn.{RecordIn}
-use Rattle.answers.specs.declared.record.RecordIn.TheVariants as read
+use Rattle.fields.specs.Outcome.{Outcome}
 use Rattle.answers.specs.Words.{signed_word}
 
 abbrev pub record_words : WireBlock → List ℕ
@@ -42,9 +40,5 @@ record_at s =
 unfoldable pub record_in : List ℕ → Outcome WireBlock
 record_in s =
     choose (leb 72 (length s))
-    (choose (is_int32 (number_at 8 s 40)) (choose (is_int32 (number_at 8 s 48)) (kept (record_at s)) (refused Outside)) (refused Outside))
-    (refused Outside)
-
-abbrev pub record_of : RecordIn → Outcome WireBlock
-record_of (read.Record r) = kept r
-record_of read.Outside = refused Outside
+    (choose (is_int32 (number_at 8 s 40)) (choose (is_int32 (number_at 8 s 48)) (Ok (record_at s)) (Err Outside)) (Err Outside))
+    (Err Outside)

@@ -16,7 +16,8 @@ const ENDED: u64 = 0;
 
 const AT: u64 = 1;
 
-// What a slice is as the state of an iteration over a group's messages.
+// What a slice is as the state of an iteration over a group's messages. It is no Result: two of the four cases are no state, and what becomes
+// of the slot is another thing in each.
 #[derive(Clone, Copy)]
 pub enum MessagesIn {
     // Too short for one.

@@ -1,18 +1,12 @@
 // The record of a scanned block: its nine numbers, and the record that a slice begins with.
 ghost use Rattle.std.specs.Prelude.{◌≡◌};
-ghost use Rattle.answers.specs.Record.{record_words, record_in, record_of};
+ghost use Rattle.answers.specs.Record.{record_words, record_in};
 
 use crate::words::bits_i32;
 use numbers::little::read_u64;
 use numbers::signed::{bits_i64, int32, int64, is_int32};
+use protobuf::refusal::Refusal;
 use wire::record::WireBlock;
-
-// What a slice is as a record.
-#[derive(Clone, Copy)]
-pub enum RecordIn {
-    Record(WireBlock),
-    Outside,
-}
 
 // The record's numbers.
 pub fn record_numbers(r: WireBlock) -> [u64; 9]
@@ -31,22 +25,22 @@ pub fn record_numbers(r: WireBlock) -> [u64; 9]
     ]
 }
 
-// The record in the slice's first 72 bytes: none where it is shorter or a granularity is no int32.
-pub fn record_in(s: &[u8]) -> RecordIn
-    ensures { record_of result ≡ record_in s.now }
+// The record in the slice's first 72 bytes: 14 where it is shorter or a granularity is no int32.
+pub fn record_in(s: &[u8]) -> Result<WireBlock, Refusal>
+    ensures { result ≡ record_in s.now }
 {
     if s.len() < 72 {
-        return RecordIn::Outside;
+        return Err(Refusal::Outside);
     }
     let granularity = read_u64(s, 40);
     let dategranularity = read_u64(s, 48);
     if !is_int32(granularity) {
-        return RecordIn::Outside;
+        return Err(Refusal::Outside);
     }
     if !is_int32(dategranularity) {
-        return RecordIn::Outside;
+        return Err(Refusal::Outside);
     }
-    RecordIn::Record(WireBlock {
+    Ok(WireBlock {
         block: read_u64(s, 0) as usize,
         strings: read_u64(s, 8) as usize,
         stringtable: read_u64(s, 16) as usize,

@@ -2,7 +2,6 @@
 ghost use Rattle.std.specs.Prelude.{◌≡◌};
 ghost use Rattle.answers.specs.Messages.{
   place_asked,
-  handed_back,
   step_state,
   message_asked,
   message_code,
@@ -13,19 +12,8 @@ ghost use Rattle.answers.specs.Messages.{
 use crate::codes::{ENDED, OUTSIDE};
 use crate::group::{MessagesIn, messages_in, part_numbers, put_iter};
 use crate::words::put_numbers;
-use groups::group::{MessagePlace, MessageStep, WireMessageIter};
+use groups::group::{MessagePlace, WireMessageIter};
 use protobuf::refusal::number;
-
-// The state that a step hands back, whatever it answers.
-fn handed_back(r: MessageStep) -> WireMessageIter
-    ensures { result ≡ handed_back r }
-{
-    match r {
-        MessageStep::Refused { refusal: _, next } => next,
-        MessageStep::Ended { next } => next,
-        MessageStep::Message { part: _, next } => next,
-    }
-}
 
 // The step of a state that has not ended: 14 where `out` is too short for a part, then what the iterator answers. The state that it hands
 // back goes into the slot; after 14 for `out` too that is the ended one.
@@ -39,12 +27,12 @@ fn step_message(buffer: &[u8], place: MessagePlace, state: &mut [u8], out: &mut 
         return OUTSIDE;
     }
     let iter = WireMessageIter::At(place);
-    let r = iter.step(buffer);
-    put_iter(state, handed_back(r));
-    match r {
-        MessageStep::Refused { refusal, next: _ } => number(refusal),
-        MessageStep::Ended { next: _ } => ENDED,
-        MessageStep::Message { part, next: _ } => {
+    let step = iter.step(buffer);
+    put_iter(state, step.next);
+    match step.said {
+        Err(n) => number(n),
+        Ok(None) => ENDED,
+        Ok(Some(part)) => {
             put_numbers(out, &part_numbers(part));
             0
         }

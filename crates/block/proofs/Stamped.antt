@@ -1,6 +1,6 @@
 -- Worked metadata: a block with its full listing, and of one dense node its info where a column of DenseInfo is missing: with one of the first five
 -- there is none, and without visible it is true.
-use Rattle.std.specs.Prelude.{ℕ, ◌≡◌, refl, List, [], ◌∷◌, ◌++◌, true, false, pos, negsuc}
+use Rattle.std.specs.Prelude.{ℕ, ◌≡◌, refl, List, [], ◌∷◌, ◌++◌, true, false, pos, negsuc, Some, None}
 use Rattle.std.proofs.Math.Option.{none, some}
 use Rattle.protobuf.specs.Read.{and_then}
 use Rattle.protobuf.specs.Varint.{digits, varint}
@@ -19,7 +19,7 @@ use Rattle.block.specs.Strings.{text_at, shown, role_text}
 use Rattle.block.specs.Stored.{values_of, pair_up, strings_of, tags_in, dense_by}
 use Rattle.block.specs.Listing.{dense_node, loose_node, a_way, members_by, node_element, way_element, relation_element, dense_by_sums, dense_elements, group_elements, elements_from, listing}
 use Rattle.block.specs.Metadata.{Full, Metadata, viewed, in_step, element_info, infos_of, node_infos, dense_infos, group_metadata, metadata_of, full_listing}
-use Rattle.block.specs.Spelled.{in_group, in_dense, in_dense_info, versions, timestamps, changesets, uids, users, visibles, one, one_node, at, stated, marked, unstated, unstated64, unmarked}
+use Rattle.block.specs.Spelled.{in_group, in_dense, in_dense_info, versions, timestamps, changesets, uids, users, visibles, one, one_node, at}
 use Rattle.groups.specs.Group.{dense_from}
 use Rattle.fields.specs.Parts.{parts_of, messages_of}
 
@@ -56,20 +56,20 @@ told =
           ∷ in_step (some (record { version = pos 2; timestamp = pos 11; changeset = pos 2; uid = negsuc 2147483647; user = pos 3; visible = true }))
           ∷ in_step none
           ∷ viewed (record {
-            version = stated (pos 3);
-            timestamp = unstated64;
-            changeset = unstated64;
-            uid = unstated;
-            user = stated (pos 2);
-            visible = marked true;
+            version = Some (pos 3);
+            timestamp = None;
+            changeset = None;
+            uid = None;
+            user = Some (pos 2);
+            visible = Some true;
           })
           ∷ viewed (record {
-            version = unstated;
-            timestamp = unstated64;
-            changeset = unstated64;
-            uid = unstated;
-            user = unstated;
-            visible = unmarked;
+            version = None;
+            timestamp = None;
+            changeset = None;
+            uid = None;
+            user = None;
+            visible = None;
           })
           ∷ [];
     }

@@ -1,7 +1,7 @@
 -- A worked block in which nothing is as usual: every clause that a block with defaults, small numbers and full tables would not show. It has a
 -- granularity twice, other defaults, two string tables, two groups with dense nodes, keys and roles at the string count and past it, numbers that
 -- are cut to 32 bits beside keys_vals, which are not, and metadata of both kinds. Its listing, its content and its metadata are written out.
-use Rattle.std.specs.Prelude.{ℕ, ◌≡◌, refl, List, [], ◌∷◌, ◌++◌, true, false, ℤ, pos, negsuc}
+use Rattle.std.specs.Prelude.{ℕ, ◌≡◌, refl, List, [], ◌∷◌, ◌++◌, true, false, ℤ, pos, negsuc, Ok, Some, None}
 use Rattle.std.proofs.Math.Option.{none, some}
 use Rattle.numbers.specs.Little.{bytes}
 use Rattle.protobuf.specs.Read.{and_then}
@@ -12,7 +12,7 @@ use Rattle.protobuf.specs.Stream.{unrolled, mapped}
 use Rattle.message.specs.Message.{field_at, message_from}
 use Rattle.numbers.specs.Signed.{signed, twos, unzigzag, zigzag, residue, wrap}
 use Rattle.protobuf.specs.Column.{value_at, column_from, sums_from}
-use Rattle.fields.specs.Outcome.{kept, onward, each}
+use Rattle.fields.specs.Outcome.{onward, each}
 use Rattle.wire.specs.Tables.{entries}
 use Rattle.wire.specs.Scan.{tables_stage, strings_stage, fields_stage, scanned}
 use Rattle.fields.specs.View.{column_part, info_part, put, store, view_from, view}
@@ -24,7 +24,7 @@ use Rattle.block.specs.Stored.{values_of, pair_up, strings_of, tags_in, dense_by
 use Rattle.block.specs.Listing.{Kind, dense_node, loose_node, a_way, a_relation, of_node, of_way, of_relation, unknown, Member, Element, Listing, members_by, node_element, way_element, relation_element, dense_by_sums, dense_elements, group_elements, elements_from, listing}
 use Rattle.block.specs.Metadata.{Metadata, viewed, in_step, element_info, infos_of, node_infos, dense_infos, group_metadata, metadata_of, full_listing}
 use Rattle.block.specs.Content.{Content, dense_content, node_content, way_content, relation_content, group_content, content}
-use Rattle.block.specs.Spelled.{in_table, in_group, in_string, in_node, in_dense, in_way, in_relation, in_info, in_dense_info, at, member, stated, stated64, marked, unstated, unstated64, unmarked, groups_scanned}
+use Rattle.block.specs.Spelled.{in_table, in_group, in_string, in_node, in_dense, in_way, in_relation, in_info, in_dense_info, at, member, groups_scanned}
 use Rattle.groups.specs.Group.{dense_from}
 use Rattle.fields.specs.Parts.{parts_of, messages_of}
 
@@ -318,7 +318,7 @@ stored =
 
 abbrev pub no_info : Metadata
 no_info =
-    viewed (record { version = unstated; timestamp = unstated64; changeset = unstated64; uid = unstated; user = unstated; visible = unmarked })
+    viewed (record { version = None; timestamp = None; changeset = None; uid = None; user = None; visible = None })
 
 -- as the elements are listed
 abbrev pub beside : List Metadata
@@ -326,18 +326,18 @@ beside =
     in_step (some (record { version = pos 1; timestamp = pos 4000000000; changeset = negsuc 0; uid = pos 10; user = pos 2147483647; visible = false }))
     ∷ in_step (some (record { version = negsuc 0; timestamp = pos 5000000000; changeset = pos 4; uid = pos 30; user = negsuc 2147483647; visible = true }))
     ∷ in_step (some (record { version = pos 4; timestamp = pos 4999999999; changeset = pos 5000000004; uid = pos 25; user = negsuc 2147483644; visible = true }))
-    ∷ viewed (record { version = stated (pos 1); timestamp = stated64 (pos 6000000000); changeset = unstated64; uid = stated (negsuc 0); user = unstated; visible = marked true })
+    ∷ viewed (record { version = Some (pos 1); timestamp = Some (pos 6000000000); changeset = None; uid = Some (negsuc 0); user = None; visible = Some true })
     ∷ no_info
     ∷ in_step (some (record { version = pos 6; timestamp = pos 7; changeset = pos 8; uid = pos 9; user = negsuc 1; visible = true }))
     ∷ in_step none
     ∷ no_info
-    ∷ viewed (record { version = stated (pos 2); timestamp = stated64 (pos 11); changeset = stated64 (pos 12); uid = stated (pos 13); user = stated (pos 14); visible = marked false })
+    ∷ viewed (record { version = Some (pos 2); timestamp = Some (pos 11); changeset = Some (pos 12); uid = Some (pos 13); user = Some (pos 14); visible = Some false })
     ∷ no_info
     ∷ no_info
     ∷ []
 
 pub record Unusual : Type 0 where
-  pub is-scanned : groups_scanned unusual 56 ≡ kept 2
+  pub is-scanned : groups_scanned unusual 56 ≡ Ok 2
   pub is-checked : checked unusual ≡ passed
   pub is-listed : listing unusual ≡ listed
   pub is-stored : content unusual ≡ stored

@@ -2,7 +2,7 @@
 -- by what they give and not only by an equality between them. In the block: a tag that is shown and a list of tags cut at a pair without a text, a
 -- dense key of 4,294,967,296, role texts, an empty one and none, a member of each case, an empty group, a dense message without nodes. The twin
 -- has other metadata, date granularity, order of strings and fields, unknown fields and longer spellings.
-use Rattle.std.specs.Prelude.{ℕ, ◌≡◌, refl, List, [], ◌∷◌, ◌++◌, pos, negsuc}
+use Rattle.std.specs.Prelude.{ℕ, ◌≡◌, refl, List, [], ◌∷◌, ◌++◌, pos, negsuc, Ok}
 use Rattle.std.proofs.Math.Option.{none, some}
 use Rattle.numbers.specs.Little.{bytes}
 use Rattle.protobuf.specs.Read.{and_then}
@@ -13,7 +13,7 @@ use Rattle.protobuf.specs.Stream.{unrolled, mapped}
 use Rattle.message.specs.Message.{field_at, message_from}
 use Rattle.numbers.specs.Signed.{signed, twos, unzigzag, zigzag, residue, wrap}
 use Rattle.protobuf.specs.Column.{value_at, column_from, sums_from}
-use Rattle.fields.specs.Outcome.{kept, onward, each}
+use Rattle.fields.specs.Outcome.{onward, each}
 use Rattle.wire.specs.Tables.{entries}
 use Rattle.wire.specs.Scan.{tables_stage, strings_stage, fields_stage, scanned}
 use Rattle.fields.specs.View.{column_part, info_part, put, store, view_from, view}
@@ -144,8 +144,8 @@ twin =
     ++ (0x0A ∷ 0x18 ∷ 0x0A ∷ 0x00 ∷ 0x0A ∷ 0x04 ∷ 0x70 ∷ 0x61 ∷ 0x74 ∷ 0x68 ∷ 0x0A ∷ 0x05 ∷ 0x6F ∷ 0x75 ∷ 0x74 ∷ 0x65 ∷ 0x72 ∷ 0x0A ∷ 0x07 ∷ 0x68 ∷ 0x69 ∷ 0x67 ∷ 0x68 ∷ 0x77 ∷ 0x61 ∷ 0x79 ∷ [])
 
 pub record Worked : Type 0 where
-  pub first-scanned : groups_scanned first 64 ≡ kept 4
-  pub twin-scanned : groups_scanned twin 64 ≡ kept 4
+  pub first-scanned : groups_scanned first 64 ≡ Ok 4
+  pub twin-scanned : groups_scanned twin 64 ≡ Ok 4
   pub first-checked : checked first ≡ passed
   pub twin-checked : checked twin ≡ passed
   pub first-listing : listing first ≡ worked

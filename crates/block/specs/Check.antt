@@ -1,12 +1,12 @@
 -- The check: a scanned block's groups one after the other, each read in document 01's order, up to the first condition of the table that is
 -- met. A group: the dense pass over all its fields, then its dense message, its nodes, its ways, its relations.
-use Rattle.std.specs.Prelude.{ℕ, List, [], ◌∷◌, eqb}
+use Rattle.std.specs.Prelude.{ℕ, List, [], ◌∷◌, eqb, Ok, Err}
 use Rattle.protobuf.specs.declared.refusal.Refusal.TheVariants.{Counts}
 use Rattle.numbers.specs.Choose.{choose}
 use Rattle.message.specs.Message.{message}
 use Rattle.protobuf.specs.Column.{Column}
 use Rattle.fields.specs.declared.part.Part.{Part}
-use Rattle.fields.specs.Outcome.{Outcome, kept, refused, onward}
+use Rattle.fields.specs.Outcome.{Outcome, onward}
 use Rattle.fields.specs.Part.{no_part, bytes_in}
 use Rattle.fields.specs.Parts.{messages_of}
 use Rattle.fields.specs.View.{Schema, Slots, view}
@@ -16,7 +16,7 @@ use Rattle.block.specs.Columns.{column_in, count_of}
 use Rattle.block.specs.Tags.{dense_pairs}
 
 abbrev pub passed : Outcome Unit
-passed = kept tt
+passed = Ok tt
 
 -- one after the other
 unfoldable pub all : {A : Type 0} → (A → Outcome Unit) → List A → Outcome Unit
@@ -25,7 +25,7 @@ all check (a ∷ rest) = onward (check a) λ u. all check rest
 
 -- two counts that must be equal; a refusal of either comes before 12
 unfoldable pub agreed : Outcome ℕ → Outcome ℕ → Outcome ℕ
-agreed a b = onward a λ m. onward b λ n. choose (eqb m n) (kept m) (refused Counts)
+agreed a b = onward a λ m. onward b λ n. choose (eqb m n) (Ok m) (Err Counts)
 
 -- two columns, read whole one after the other, with equal counts
 abbrev pub same_counts : Column ℕ → Column ℕ → Outcome ℕ

@@ -7,7 +7,7 @@ use Rattle.protobuf.specs.Column.{int32s, sint32s, sint64s, bools, sums}
 use Rattle.views.specs.declared.info.WireInfo.{WireInfo}
 use Rattle.fields.specs.View.{Schema}
 use Rattle.fields.specs.Schema.{primitive_block, node, way, relation, dense_nodes, dense_info, info}
-use Rattle.views.specs.Info.{info_fields, info_of}
+use Rattle.views.specs.Info.{info_of}
 use Rattle.wire.specs.Block.{block_fields}
 use Rattle.block.specs.Columns.{column_in}
 use Rattle.block.specs.Infos.{Info, Infos, NextInfo, present, missing, stopped, next_info}
@@ -28,7 +28,7 @@ pub record Full : Type 0 where
   pub metadata : List Metadata
 
 unfoldable pub element_info : Schema → List ℕ → Metadata
-element_info schema s = viewed (info_of (info_fields (slots_of info (bytes_in s (slots_of schema s 4).part))))
+element_info schema s = viewed (info_of (slots_of info (bytes_in s (slots_of schema s 4).part)))
 
 -- the six columns of a DenseInfo; those that are stored as differences are summed
 unfoldable pub infos_of : List ℕ → Infos

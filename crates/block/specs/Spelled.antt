@@ -1,13 +1,10 @@
 -- How worked blocks and their values are spelled. A length-delimited field is its tag, the length of its bytes and the bytes, so that a worked block
 -- is laid out by message and no length is written by hand. Nothing here is part of what is defined: values are spelled field by field.
-use Rattle.std.specs.Prelude.{ℕ, ◌+◌, ◌/◌, ◌%◌, List, [], ◌∷◌, ◌++◌, Bool, true, false, length, replicate, ltb, ℤ, pos}
+use Rattle.std.specs.Prelude.{ℕ, ◌+◌, ◌/◌, ◌%◌, List, [], ◌∷◌, ◌++◌, length, replicate, ltb, ℤ, Ok, Err}
 use Rattle.std.proofs.Math.Option.{Option}
 use Rattle.protobuf.specs.Refusal.{number}
 use Rattle.numbers.specs.Choose.{choose}
-use Rattle.views.specs.declared.info.Number32.{Number32}
-use Rattle.views.specs.declared.info.Number64.{Number64}
-use Rattle.views.specs.declared.info.Flag.{Flag}
-use Rattle.fields.specs.Outcome.{Outcome, kept, refused, each}
+use Rattle.fields.specs.Outcome.{Outcome, each}
 use Rattle.wire.specs.Scan.{scanned}
 use Rattle.block.specs.Strings.{Text}
 use Rattle.block.specs.Listing.{Position, MemberId, Member}
@@ -141,29 +138,11 @@ at lat lon = record { lat = lat; lon = lon }
 abbrev pub member : Option Text → MemberId → Member
 member role id = record { role = role; id = id }
 
-abbrev pub stated : ℤ → Number32
-stated n = record { present = true; value = n }
-
-abbrev pub stated64 : ℤ → Number64
-stated64 n = record { present = true; value = n }
-
-abbrev pub marked : Bool → Flag
-marked v = record { present = true; value = v }
-
-abbrev pub unstated : Number32
-unstated = record { present = false; value = pos 0 }
-
-abbrev pub unstated64 : Number64
-unstated64 = record { present = false; value = pos 0 }
-
-abbrev pub unmarked : Flag
-unmarked = record { present = false; value = false }
-
 -- the group count of a block's record, with n bytes behind the block
 abbrev pub groups_scanned : List ℕ → ℕ → Outcome ℕ
 groups_scanned block n = each (λ x. x.block.groups) (scanned (block ++ replicate n 0) (length block))
 
 -- the number that an outcome gives, 0 where it is kept
 unfoldable pub number_of : {A : Type 0} → Outcome A → ℕ
-number_of (kept a) = 0
-number_of (refused r) = number r
+number_of (Ok a) = 0
+number_of (Err r) = number r

@@ -1,12 +1,12 @@
 -- What an accepted block stores, message by message, from its bytes alone: the numbers of each column in their order, as section 1 of
 -- document 01 reads them, with nothing summed. The listing and the content are both made of this.
-use Rattle.std.specs.Prelude.{ℕ, List, [], ◌∷◌, length, ℤ}
+use Rattle.std.specs.Prelude.{ℕ, List, [], ◌∷◌, length, ℤ, Ok, Err}
 use Rattle.numbers.specs.Choose.{choose}
 use Rattle.message.specs.Message.{message}
 use Rattle.protobuf.specs.Stream.{end, more}
 use Rattle.protobuf.specs.Column.{Column, uint32s, sint64s}
 use Rattle.fields.specs.declared.part.Part.{Part}
-use Rattle.fields.specs.Outcome.{Outcome, kept, refused}
+use Rattle.fields.specs.Outcome.{Outcome}
 use Rattle.fields.specs.Part.{no_part, bytes_in}
 use Rattle.fields.specs.Parts.{messages_of}
 use Rattle.fields.specs.View.{Schema, Slots, empty, view}
@@ -18,8 +18,8 @@ use Rattle.block.specs.Strings.{Text, Tag, shown}
 
 -- what was kept; an accepted block refuses nothing
 abbrev pub kept_or : {A : Type 0} → A → Outcome A → A
-kept_or other (kept a) = a
-kept_or other (refused r) = other
+kept_or other (Ok a) = a
+kept_or other (Err r) = other
 
 abbrev pub slots_of : Schema → List ℕ → Slots
 slots_of schema s = kept_or empty (view schema s)

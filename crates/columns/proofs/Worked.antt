@@ -1,26 +1,25 @@
 -- Worked values: what the definitions here say of concrete bytes and columns, one row for each clause of document 01, section 3, that they
 -- carry. They are proved by computing, so a definition that is changed breaks the row of its clause, whatever the code does. Bytes are
 -- hexadecimal.
-use Rattle.std.specs.Prelude.{ℕ, ◌+◌, ◌-◌, ◌*◌, ◌^◌, ◌≡◌, refl, List, [], ◌∷◌, true, false, pos, negsuc}
+use Rattle.std.specs.Prelude.{ℕ, ◌+◌, ◌-◌, ◌*◌, ◌^◌, ◌≡◌, refl, List, [], ◌∷◌, true, false, pos, negsuc, Ok, Err, Option, Some, None}
+use Rattle.protobuf.specs.declared.refusal.Refusal.{Refusal}
 use Rattle.protobuf.specs.declared.refusal.Refusal.TheVariants.{VarintCut, VarintLong, Counts, Outside}
 use Rattle.protobuf.specs.declared.column.Column as state
 use Rattle.protobuf.specs.Read.{and_then}
 use Rattle.protobuf.specs.Varint.{digits, varint}
+use Rattle.protobuf.specs.Answers.{step_by}
 use Rattle.numbers.specs.Signed.{signed, twos, unzigzag, zigzag, residue, wrap}
 use Rattle.protobuf.specs.Stream.{end, more, last, item, unrolled, mapped}
+use Rattle.fields.specs.Outcome.{Outcome}
 use Rattle.protobuf.specs.Column.{ColumnEnd, ended, cut, Column, value_at, column_from, sums_from}
 use Rattle.fields.specs.Part.{part_by}
 use Rattle.block.specs.Infos as info
-use Rattle.columns.specs.declared.told.Told.TheVariants as told
 use Rattle.columns.specs.declared.sums.Sum64.{Sum64}
 use Rattle.columns.specs.declared.sums.Sum32.{Sum32}
 use Rattle.columns.specs.declared.info_rows.InfoColumns.{InfoColumns}
-use Rattle.columns.specs.declared.info_rows.InfoStep.TheVariants as infos
-use Rattle.columns.specs.declared.keys_vals.DenseTag.TheVariants as tag
-use Rattle.columns.specs.declared.keys_vals.Behind.TheVariants as behind
-use Rattle.columns.specs.InStep.{said_by, in_step, ahead, start_of, read_by}
-use Rattle.columns.specs.Inside.{column_inside, tags_inside, members_inside, rows_inside, infos_inside, tag_inside, behind_inside, info_inside}
-use Rattle.columns.specs.KeysVals.{pair, done, stopped, next_tag, tag_said}
+use Rattle.columns.specs.InStep.{said_by, in_step, ahead, start_of}
+use Rattle.columns.specs.Inside.{step_inside, column_inside, tags_inside, members_inside, rows_inside, infos_inside, tag_inside, behind_inside, info_inside}
+use Rattle.columns.specs.KeysVals.{next_tag, tag_said, behind_of}
 use Rattle.columns.specs.Zip.{both, zip, sum64_ahead, sum64_said, moved_sum, sum32_ahead, sum32_said, tags_ahead, tags_said, members_ahead, members_said, rows_ahead, rows_said, infos_ahead, info_said}
 
 -- a column of these values and this end
@@ -59,9 +58,9 @@ pub record Readers : Type 0 where
   pub start-absent : start_of (record { present = false; start = 3; len = 2 }) ≡ place 0 0
   pub start-to_the_last : start_of (part_by 1 (2 ^ 64 - 2)) ≡ place 1 (2 ^ 64 - 1)
   pub start-past-all-bytes : start_of (part_by 1 (2 ^ 64 - 1)) ≡ place 1 0
-  pub read-value : read_by 5 (item 7 3) ≡ record { told = told.Value; value = 7; next = place 3 5 }
-  pub read-ended : read_by 5 (last ended) ≡ record { told = told.Ended; value = 0; next = place 0 0 }
-  pub read-refused : read_by 5 (last (cut VarintLong)) ≡ record { told = told.Refused VarintLong; value = 0; next = place 0 0 }
+  pub read-value : step_by 5 (item 7 3) ≡ Ok (Some (7, place 3 5))
+  pub read-ended : step_by 5 (last ended) ≡ Ok None
+  pub read-refused : step_by 5 (last (cut VarintLong)) ≡ Err VarintLong
 
 pub readers_worked : Readers
 unfolding and_then digits varint unrolled value_at column_from ahead start_of
@@ -84,19 +83,32 @@ readers_worked =
       read-refused = refl;
     }
 
+-- what a reader of numbers answers
+abbrev value : ℕ → Outcome (Option ℕ)
+value n = Ok (Some n)
+
+abbrev no_value : Outcome (Option ℕ)
+no_value = Ok None
+
+abbrev refused : Refusal → Outcome (Option ℕ)
+refused r = Err r
+
+abbrev then_nine : ℕ → Column ℕ
+then_nine n = numbers (9 ∷ []) ended
+
 -- two in step: 12 only where one has ended and the other has not, a refusal before 12, and the first one's before the second's
 pub record Steps : Type 0 where
-  pub both_values : in_step told.Value told.Value ≡ told.Value
-  pub both-ended : in_step told.Ended told.Ended ≡ told.Ended
-  pub second_ended : in_step told.Value told.Ended ≡ told.Refused Counts
-  pub first_ended : in_step told.Ended told.Value ≡ told.Refused Counts
-  pub refusal_at_an_end : in_step told.Ended (told.Refused VarintCut) ≡ told.Refused VarintCut
-  pub refusal_at_a_value : in_step told.Value (told.Refused VarintCut) ≡ told.Refused VarintCut
-  pub first_refusal : in_step (told.Refused VarintLong) (told.Refused VarintCut) ≡ told.Refused VarintLong
-  pub refusal_before_an_end : in_step (told.Refused VarintLong) told.Ended ≡ told.Refused VarintLong
-  pub said-value : said_by {A = ℕ} told.Value 7 (numbers (8 ∷ []) ended) ≡ ending (7 ∷ 8 ∷ []) ended
-  pub said-ended : said_by {A = ℕ} told.Ended 7 (numbers (8 ∷ []) ended) ≡ end ended
-  pub said-refused : said_by {A = ℕ} (told.Refused VarintCut) 7 (numbers (8 ∷ []) ended) ≡ end (cut VarintCut)
+  pub both_values : in_step (value 7) (value 8) ≡ Ok (Some (7, 8))
+  pub both-ended : in_step no_value no_value ≡ Ok None
+  pub second_ended : in_step (value 7) no_value ≡ Err Counts
+  pub first_ended : in_step no_value (value 8) ≡ Err Counts
+  pub refusal_at_an_end : in_step no_value (refused VarintCut) ≡ Err VarintCut
+  pub refusal_at_a_value : in_step (value 7) (refused VarintCut) ≡ Err VarintCut
+  pub first_refusal : in_step (refused VarintLong) (refused VarintCut) ≡ Err VarintLong
+  pub refusal_before_an_end : in_step (refused VarintLong) no_value ≡ Err VarintLong
+  pub said-value : said_by (λ n. n) then_nine (value 7) ≡ ending (7 ∷ 9 ∷ []) ended
+  pub said-ended : said_by (λ n. n) then_nine no_value ≡ end ended
+  pub said-refused : said_by (λ n. n) then_nine (refused VarintCut) ≡ end (cut VarintCut)
   pub zip-pairs : zip (numbers (1 ∷ 2 ∷ []) ended) (numbers (3 ∷ 4 ∷ []) ended) ≡ ending (both 1 3 ∷ both 2 4 ∷ []) ended
   pub zip-second-short : zip (numbers (1 ∷ 2 ∷ []) ended) (numbers (3 ∷ []) ended) ≡ ending (both 1 3 ∷ []) (cut Counts)
   pub zip-first-short : zip (numbers (1 ∷ []) ended) (numbers (3 ∷ 4 ∷ []) ended) ≡ ending (both 1 3 ∷ []) (cut Counts)
@@ -144,17 +156,17 @@ pub record Columns : Type 0 where
   pub difference_at_64 : sum64_ahead long (summing 0 5 0) ≡ ending (pos (2 ^ 31 + 1) ∷ []) ended
   pub difference_at_32 : sum32_ahead long (summing32 0 5 0) ≡ ending (pos 1 ∷ []) ended
   pub moved : moved_sum (summing 2 9 5) (16 * 4 + 2) ≡ summing 4 9 7
-  pub sum_said : sum64_said bytes (record { told = told.Value; next = summing 1 3 6 }) ≡ ending (pos 6 ∷ pos 8 ∷ pos 7 ∷ []) ended
-  pub sum32-said : sum32_said bytes (record { told = told.Value; next = summing32 1 3 6 }) ≡ ending (pos 6 ∷ pos 8 ∷ pos 7 ∷ []) ended
+  pub sum_said : sum64_said bytes (Ok (Some (summing 1 3 6))) ≡ ending (pos 6 ∷ pos 8 ∷ pos 7 ∷ []) ended
+  pub sum32-said : sum32_said bytes (Ok (Some (summing32 1 3 6))) ≡ ending (pos 6 ∷ pos 8 ∷ pos 7 ∷ []) ended
   pub key-cut : tags_ahead long (record { keys = place 0 5; vals = place 5 6 }) ≡ ending (both 2 7 ∷ []) ended
   pub value-cut : tags_ahead long (record { keys = place 5 6; vals = place 0 5 }) ≡ ending (both 7 2 ∷ []) ended
-  pub tag-said : tags_said bytes (record { told = told.Value; key = 8; value = 9; next = record { keys = place 0 1; vals = place 1 2 } }) ≡ ending (both 8 9 ∷ both 2 4 ∷ []) ended
+  pub tag-said : tags_said bytes (Ok (Some ((8, 9), record { keys = place 0 1; vals = place 1 2 }))) ≡ ending (both 8 9 ∷ both 2 4 ∷ []) ended
   pub role-signed : members_ahead minus (record { roles = place 0 5; memids = summing 5 6 3; types = place 6 7 }) ≡ ending (both (negsuc 0) (both (pos 4) (pos 9)) ∷ []) ended
   pub type_signed : members_ahead minus (record { roles = place 6 7; memids = summing 5 6 3; types = place 0 5 }) ≡ ending (both (pos 9) (both (pos 4) (negsuc 0)) ∷ []) ended
-  pub member-said : members_said minus (record { told = told.Value; role = pos 1; kind = pos 2; next = record { roles = place 7 7; memids = summing 7 7 3; types = place 7 7 } }) ≡ ending (both (pos 1) (both (pos 3) (pos 2)) ∷ []) ended
+  pub member-said : members_said minus (Ok (Some ((pos 1, pos 2), record { roles = place 7 7; memids = summing 7 7 3; types = place 7 7 }))) ≡ ending (both (pos 1) (both (pos 3) (pos 2)) ∷ []) ended
   pub row : rows_ahead bytes (record { ids = summing 0 1 10; lats = summing 1 2 20; lons = summing 2 3 30 }) ≡ ending (both (pos 11) (both (pos 22) (pos 29)) ∷ []) ended
   pub row-short : rows_ahead bytes (record { ids = summing 0 1 10; lats = summing 1 2 20; lons = summing 3 3 30 }) ≡ end (cut Counts)
-  pub row-said : rows_said bytes (record { told = told.Value; next = record { ids = summing 3 3 1; lats = summing 3 3 2; lons = summing 3 3 3 } }) ≡ ending (both (pos 1) (both (pos 2) (pos 3)) ∷ []) ended
+  pub row-said : rows_said bytes (Ok (Some (record { ids = summing 3 3 1; lats = summing 3 3 2; lons = summing 3 3 3 }))) ≡ ending (both (pos 1) (both (pos 2) (pos 3)) ∷ []) ended
 
 pub columns-worked : Columns
 unfolding and_then digits varint unrolled value_at column_from ahead zip signed twos unzigzag zigzag residue wrap mapped sums_from
@@ -182,17 +194,19 @@ columns-worked =
 
 -- keys_vals: a node's pairs end at a key 0 and at the end; 0 is a value; a value that is due and missing is 2; a key is not cut to 32 bits
 pub record KeysVals : Type 0 where
-  pub key-and-value : next_tag (ending (1 ∷ 2 ∷ 3 ∷ []) ended) ≡ pair 1 2 (ending (3 ∷ []) ended)
-  pub value-zero : next_tag (ending (1 ∷ 0 ∷ 3 ∷ []) ended) ≡ pair 1 0 (ending (3 ∷ []) ended)
-  pub key-zero : next_tag (ending (0 ∷ 1 ∷ []) ended) ≡ done (ending (1 ∷ []) ended)
-  pub key-of_33_bits : next_tag (ending (2 ^ 32 ∷ 1 ∷ []) ended) ≡ pair (2 ^ 32) 1 (end ended)
-  pub no_key : next_tag (end ended) ≡ done (end ended)
-  pub no_value : next_tag (ending (1 ∷ []) ended) ≡ stopped VarintCut
-  pub key-refused : next_tag (end (cut VarintLong)) ≡ stopped VarintLong
-  pub value-refused : next_tag (ending (1 ∷ []) (cut VarintLong)) ≡ stopped VarintLong
-  pub said-pair : tag_said bytes (tag.Pair 8 9 (place 1 2)) ≡ pair 8 9 (ending (4 ∷ []) ended)
-  pub said-done : tag_said bytes (tag.Done (place 1 2)) ≡ done (ending (4 ∷ []) ended)
-  pub said-refused : tag_said bytes (tag.Refused VarintLong) ≡ stopped VarintLong
+  pub key-and-value : next_tag (ending (1 ∷ 2 ∷ 3 ∷ []) ended) ≡ Ok (Some (1, 2), ending (3 ∷ []) ended)
+  pub value-zero : next_tag (ending (1 ∷ 0 ∷ 3 ∷ []) ended) ≡ Ok (Some (1, 0), ending (3 ∷ []) ended)
+  pub key-zero : next_tag (ending (0 ∷ 1 ∷ []) ended) ≡ Ok (None, ending (1 ∷ []) ended)
+  pub key-of_33_bits : next_tag (ending (2 ^ 32 ∷ 1 ∷ []) ended) ≡ Ok (Some (2 ^ 32, 1), end ended)
+  pub no_key : next_tag (end ended) ≡ Ok (None, end ended)
+  pub no_value : next_tag (ending (1 ∷ []) ended) ≡ Err VarintCut
+  pub key-refused : next_tag (end (cut VarintLong)) ≡ Err VarintLong
+  pub value-refused : next_tag (ending (1 ∷ []) (cut VarintLong)) ≡ Err VarintLong
+  pub said-pair : tag_said bytes (Ok (Some (8, 9), place 1 2)) ≡ Ok (Some (8, 9), ending (4 ∷ []) ended)
+  pub said-done : tag_said bytes (Ok (None, place 1 2)) ≡ Ok (None, ending (4 ∷ []) ended)
+  pub said-refused : tag_said bytes (Err VarintLong) ≡ Err VarintLong
+  pub behind-said : behind_of bytes (Ok (place 1 2)) ≡ Ok (ending (4 ∷ []) ended)
+  pub behind-refused : behind_of bytes (Err VarintLong) ≡ Err VarintLong
 
 pub keys-vals-worked : KeysVals
 unfolding and_then digits varint unrolled value_at column_from ahead
@@ -209,6 +223,8 @@ keys-vals-worked =
       said-pair = refl;
       said-done = refl;
       said-refused = refl;
+      behind-said = refl;
+      behind-refused = refl;
     }
 
 -- columns of one value each, with sums at the edge of 32 bits; and columns that have ended
@@ -237,9 +253,9 @@ past =
 -- the info of a dense node: the columns' types, sums of 64 and of 32 bits, and told with the next state's sums
 pub record Infos : Type 0 where
   pub ahead-of_it : infos_ahead bytes first ≡ record { versions = ending (pos 2 ∷ []) ended; timestamps = ending (pos (2 ^ 31) ∷ []) ended; changesets = ending (pos (2 ^ 31 + 1) ∷ []) ended; uids = ending (negsuc (2 ^ 31 - 1) ∷ []) ended; users = ending (negsuc (2 ^ 31 - 2) ∷ []) ended; visibles = ending (true ∷ []) ended }
-  pub said_row : info_said bytes (infos.Row (pos 7) false past) ≡ info.present (record { version = pos 7; timestamp = pos 1; changeset = pos 2; uid = pos 3; user = pos 4; visible = false }) (infos_ahead bytes past)
-  pub said-missing : info_said bytes (infos.Missing past) ≡ info.missing (record { versions = end ended; timestamps = end ended; changesets = end ended; uids = end ended; users = end ended; visibles = end ended })
-  pub said-refused : info_said bytes (infos.Refused VarintLong) ≡ info.stopped VarintLong
+  pub said_row : info_said bytes (Ok (Some (record { version = pos 7; visible = false }), past)) ≡ info.present (record { version = pos 7; timestamp = pos 1; changeset = pos 2; uid = pos 3; user = pos 4; visible = false }) (infos_ahead bytes past)
+  pub said-missing : info_said bytes (Ok (None, past)) ≡ info.missing (record { versions = end ended; timestamps = end ended; changesets = end ended; uids = end ended; users = end ended; visibles = end ended })
+  pub said-refused : info_said bytes (Err VarintLong) ≡ info.stopped VarintLong
 
 pub infos-worked : Infos
 unfolding and_then digits varint unrolled value_at column_from ahead signed twos unzigzag zigzag residue wrap mapped sums_from
@@ -287,14 +303,17 @@ pub record Insides : Type 0 where
   pub uids-outside : infos_inside bytes (six good good good bad good good) ≡ false
   pub users-outside : infos_inside bytes (six good good good good bad good) ≡ false
   pub visibles-outside : infos_inside bytes (six good good good good good bad) ≡ false
-  pub pair-hands-back : tag_inside bytes (tag.Pair 1 2 bad) ≡ false
-  pub done-hands-back : tag_inside bytes (tag.Done bad) ≡ false
-  pub tag-refused : tag_inside bytes (tag.Refused VarintCut) ≡ true
-  pub behind-hands-back : behind_inside bytes (behind.Column bad) ≡ false
-  pub behind-refused : behind_inside bytes (behind.Refused VarintCut) ≡ true
-  pub row-hands-back : info_inside bytes (infos.Row (pos 1) true (six bad good good good good good)) ≡ false
-  pub missing-hands-back : info_inside bytes (infos.Missing (six bad good good good good good)) ≡ false
-  pub info-refused : info_inside bytes (infos.Refused VarintCut) ≡ true
+  pub step-hands-back : step_inside (column_inside bytes) (Ok (Some bad)) ≡ false
+  pub step_ended : step_inside (column_inside bytes) (Ok None) ≡ true
+  pub step-refused : step_inside (column_inside bytes) (Err VarintCut) ≡ true
+  pub pair-hands-back : tag_inside bytes (Ok (Some (1, 2), bad)) ≡ false
+  pub done-hands-back : tag_inside bytes (Ok (None, bad)) ≡ false
+  pub tag-refused : tag_inside bytes (Err VarintCut) ≡ true
+  pub behind-hands-back : behind_inside bytes (Ok bad) ≡ false
+  pub behind-refused : behind_inside bytes (Err VarintCut) ≡ true
+  pub row-hands-back : info_inside bytes (Ok (Some (record { version = pos 1; visible = true }), six bad good good good good good)) ≡ false
+  pub missing-hands-back : info_inside bytes (Ok (None, six bad good good good good good)) ≡ false
+  pub info-refused : info_inside bytes (Err VarintCut) ≡ true
 
 pub insides_worked : Insides
 insides_worked =
@@ -320,6 +339,9 @@ insides_worked =
       uids-outside = refl;
       users-outside = refl;
       visibles-outside = refl;
+      step-hands-back = refl;
+      step_ended = refl;
+      step-refused = refl;
       pair-hands-back = refl;
       done-hands-back = refl;
       tag-refused = refl;

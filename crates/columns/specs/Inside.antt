@@ -1,18 +1,14 @@
 -- Whether a reader's state is inside the bytes (document 01's number 14): at ≤ end ≤ length, of each of its columns. What hands out elements
 -- tests all columns of its state before it reads any of them.
-use Rattle.std.specs.Prelude.{ℕ, List, Bool, true, false, length, leb}
+use Rattle.std.specs.Prelude.{ℕ, List, Bool, true, false, length, leb, Ok, Err, Option, Some, None}
 use Rattle.numbers.specs.Choose.{choose}
 use Rattle.protobuf.specs.declared.column.Column.{Column}
+use Rattle.fields.specs.Outcome.{Outcome}
 use Rattle.columns.specs.declared.zip.TagColumns.{TagColumns}
 use Rattle.columns.specs.declared.zip.MemberColumns.{MemberColumns}
 use Rattle.columns.specs.declared.zip.RowColumns.{RowColumns}
 use Rattle.columns.specs.declared.info_rows.InfoColumns.{InfoColumns}
-use Rattle.columns.specs.declared.info_rows.InfoStep.{InfoStep}
-use Rattle.columns.specs.declared.info_rows.InfoStep.TheVariants as infos
-use Rattle.columns.specs.declared.keys_vals.DenseTag.{DenseTag}
-use Rattle.columns.specs.declared.keys_vals.DenseTag.TheVariants as tag
-use Rattle.columns.specs.declared.keys_vals.Behind.{Behind}
-use Rattle.columns.specs.declared.keys_vals.Behind.TheVariants as behind
+use Rattle.columns.specs.declared.info_rows.Row.{Row}
 
 -- one test, and then another
 abbrev pub also : Bool → Bool → Bool
@@ -39,16 +35,21 @@ infos_inside s c =
 
 -- ---- the state that an answer hands back; a refusal hands back none
 
-abbrev pub tag_inside : List ℕ → DenseTag → Bool
-tag_inside s (tag.Pair key value next) = column_inside s next
-tag_inside s (tag.Done next) = column_inside s next
-tag_inside s (tag.Refused r) = true
+abbrev pub kept_inside : {A : Type 0} → (A → Bool) → Outcome A → Bool
+kept_inside inside (Ok a) = inside a
+kept_inside inside (Err r) = true
 
-abbrev pub behind_inside : List ℕ → Behind → Bool
-behind_inside s (behind.Column next) = column_inside s next
-behind_inside s (behind.Refused r) = true
+-- of a step: the state behind its value; the end hands back none either
+abbrev pub step_inside : {A : Type 0} → (A → Bool) → Outcome (Option A) → Bool
+step_inside inside (Ok (Some a)) = inside a
+step_inside inside (Ok None) = true
+step_inside inside (Err r) = true
 
-abbrev pub info_inside : List ℕ → InfoStep → Bool
-info_inside s (infos.Row version visible next) = infos_inside s next
-info_inside s (infos.Missing next) = infos_inside s next
-info_inside s (infos.Refused r) = true
+abbrev pub tag_inside : List ℕ → Outcome (Option (ℕ × ℕ) × Column) → Bool
+tag_inside s = kept_inside λ t. column_inside s t.1
+
+abbrev pub behind_inside : List ℕ → Outcome Column → Bool
+behind_inside s = kept_inside (column_inside s)
+
+abbrev pub info_inside : List ℕ → Outcome (Option Row × InfoColumns) → Bool
+info_inside s = kept_inside λ r. infos_inside s r.1

@@ -1,24 +1,19 @@
 -- Several columns in step: a value of each, read in the order that document 01 gives them. The end comes where all have ended; where only
 -- some have, that is 12, and a refusal of any of them comes before it. Running sums are the values of a column of differences.
-use Rattle.std.specs.Prelude.{ℕ, ◌+◌, ◌/◌, ◌%◌, List, ℤ}
+use Rattle.std.specs.Prelude.{ℕ, ◌+◌, ◌/◌, ◌%◌, List, ℤ, Ok, Err, Option, Some, None}
 use Rattle.protobuf.specs.declared.refusal.Refusal.TheVariants.{Counts}
 use Rattle.protobuf.specs.Stream.{end, more}
 use Rattle.protobuf.specs.Column.{ended, cut, Column, int32s, uint32s, sint32s, sint64s, bools, sums_from}
 use Rattle.numbers.specs.Signed.{zigzag, wrapping_add}
+use Rattle.fields.specs.Outcome.{Outcome}
 use Rattle.block.specs.Infos.{Infos, NextInfo, present, missing, stopped}
 use Rattle.columns.specs.declared.sums.Sum64.{Sum64}
-use Rattle.columns.specs.declared.sums.Sum64Step.{Sum64Step}
 use Rattle.columns.specs.declared.sums.Sum32.{Sum32}
-use Rattle.columns.specs.declared.sums.Sum32Step.{Sum32Step}
 use Rattle.columns.specs.declared.zip.TagColumns.{TagColumns}
-use Rattle.columns.specs.declared.zip.TagStep.{TagStep}
 use Rattle.columns.specs.declared.zip.MemberColumns.{MemberColumns}
-use Rattle.columns.specs.declared.zip.MemberStep.{MemberStep}
 use Rattle.columns.specs.declared.zip.RowColumns.{RowColumns}
-use Rattle.columns.specs.declared.zip.RowStep.{RowStep}
 use Rattle.columns.specs.declared.info_rows.InfoColumns.{InfoColumns}
-use Rattle.columns.specs.declared.info_rows.InfoStep.{InfoStep}
-use Rattle.columns.specs.declared.info_rows.InfoStep.TheVariants as infos
+use Rattle.columns.specs.declared.info_rows.Row.{Row}
 use Rattle.columns.specs.InStep.{said_by, ahead}
 
 pub record Both (A B : Type 0) : Type 0 where
@@ -36,13 +31,13 @@ zip (more x xs) (end ended) = end (cut Counts)
 zip (more x xs) (end (cut r)) = end (cut r)
 zip (more x xs) (more y ys) = more (both x y) (zip xs ys)
 
--- ---- running sums: what is told is the next state's sum
+-- ---- running sums: what a step says is the sum of the state behind it
 
 abbrev pub sum64_ahead : List ℕ → Sum64 → Column ℤ
 sum64_ahead s c = sums_from 64 c.sum (sint64s (ahead s c.column))
 
-abbrev pub sum64_said : List ℕ → Sum64Step → Column ℤ
-sum64_said s r = said_by r.told r.next.sum (sum64_ahead s r.next)
+abbrev pub sum64_said : List ℕ → Outcome (Option Sum64) → Column ℤ
+sum64_said s = said_by (λ c. c.sum) (sum64_ahead s)
 
 -- the state behind a value that a word tells (protobuf/specs/Short)
 abbrev pub moved_sum : Sum64 → ℕ → Sum64
@@ -52,32 +47,32 @@ moved_sum c word =
 abbrev pub sum32_ahead : List ℕ → Sum32 → Column ℤ
 sum32_ahead s c = sums_from 32 c.sum (sint32s (ahead s c.column))
 
-abbrev pub sum32_said : List ℕ → Sum32Step → Column ℤ
-sum32_said s r = said_by r.told r.next.sum (sum32_ahead s r.next)
+abbrev pub sum32_said : List ℕ → Outcome (Option Sum32) → Column ℤ
+sum32_said s = said_by (λ c. c.sum) (sum32_ahead s)
 
 -- ---- keys and vals
 
 abbrev pub tags_ahead : List ℕ → TagColumns → Column (Both ℕ ℕ)
 tags_ahead s c = zip (uint32s (ahead s c.keys)) (uint32s (ahead s c.vals))
 
-abbrev pub tags_said : List ℕ → TagStep → Column (Both ℕ ℕ)
-tags_said s r = said_by r.told (both r.key r.value) (tags_ahead s r.next)
+abbrev pub tags_said : List ℕ → Outcome (Option ((ℕ × ℕ) × TagColumns)) → Column (Both ℕ ℕ)
+tags_said s = said_by (λ r. both r.0.0 r.0.1) (λ r. tags_ahead s r.1)
 
 -- ---- roles, memids and types
 
 abbrev pub members_ahead : List ℕ → MemberColumns → Column (Both ℤ (Both ℤ ℤ))
 members_ahead s c = zip (int32s (ahead s c.roles)) (zip (sum64_ahead s c.memids) (int32s (ahead s c.types)))
 
-abbrev pub members_said : List ℕ → MemberStep → Column (Both ℤ (Both ℤ ℤ))
-members_said s r = said_by r.told (both r.role (both r.next.memids.sum r.kind)) (members_ahead s r.next)
+abbrev pub members_said : List ℕ → Outcome (Option ((ℤ × ℤ) × MemberColumns)) → Column (Both ℤ (Both ℤ ℤ))
+members_said s = said_by (λ r. both r.0.0 (both r.1.memids.sum r.0.1)) (λ r. members_ahead s r.1)
 
 -- ---- dense ids, lats and lons
 
 abbrev pub rows_ahead : List ℕ → RowColumns → Column (Both ℤ (Both ℤ ℤ))
 rows_ahead s c = zip (sum64_ahead s c.ids) (zip (sum64_ahead s c.lats) (sum64_ahead s c.lons))
 
-abbrev pub rows_said : List ℕ → RowStep → Column (Both ℤ (Both ℤ ℤ))
-rows_said s r = said_by r.told (both r.next.ids.sum (both r.next.lats.sum r.next.lons.sum)) (rows_ahead s r.next)
+abbrev pub rows_said : List ℕ → Outcome (Option RowColumns) → Column (Both ℤ (Both ℤ ℤ))
+rows_said s = said_by (λ c. both c.ids.sum (both c.lats.sum c.lons.sum)) (rows_ahead s)
 
 -- ---- the info of dense nodes
 
@@ -92,10 +87,10 @@ infos_ahead s c =
       visibles = bools (ahead s c.visible);
     }
 
-abbrev pub info_said : List ℕ → InfoStep → NextInfo
-info_said s (infos.Row version visible next) =
+abbrev pub info_said : List ℕ → Outcome (Option Row × InfoColumns) → NextInfo
+info_said s (Ok (Some row, next)) =
     present
-    (record { version = version; timestamp = next.timestamp.sum; changeset = next.changeset.sum; uid = next.uid.sum; user = next.user.sum; visible = visible })
+    (record { version = row.version; timestamp = next.timestamp.sum; changeset = next.changeset.sum; uid = next.uid.sum; user = next.user.sum; visible = row.visible })
     (infos_ahead s next)
-info_said s (infos.Missing next) = missing (infos_ahead s next)
-info_said s (infos.Refused r) = stopped r
+info_said s (Ok (None, next)) = missing (infos_ahead s next)
+info_said s (Err r) = stopped r

@@ -1,28 +1,19 @@
-// Several columns of a message in step: a value of each at a time. All of them are read before their end, or 12, is told. Where no value is
-// told, what stands beside is of no use.
+// Several columns of a message in step: a value of each at a time. All of them are read before their end, or 12, is told.
 ghost use Rattle.std.specs.Prelude.{◌≡◌, true};
-ghost use Rattle.columns.specs.Inside.{tags_inside, members_inside, rows_inside};
+ghost use Rattle.columns.specs.Inside.{step_inside, tags_inside, members_inside, rows_inside};
 ghost use Rattle.columns.specs.Zip.{tags_ahead, tags_said, members_ahead, members_said, rows_ahead, rows_said};
 
-use crate::reader::next_in;
 use crate::sums::{Sum64, next_sum64};
-use crate::told::{Told, in_step};
+use crate::told::in_step;
 use numbers::signed::int32;
-use protobuf::column::Column;
+use protobuf::column::{Column, next_value};
+use protobuf::refusal::Refusal;
 
 // Keys and vals of a node, a way or a relation.
 #[derive(Clone, Copy)]
 pub struct TagColumns {
     pub keys: Column,
     pub vals: Column,
-}
-
-#[derive(Clone, Copy)]
-pub struct TagStep {
-    pub told: Told,
-    pub key: u32,
-    pub value: u32,
-    pub next: TagColumns,
 }
 
 // Roles, memids and types of a relation.
@@ -33,15 +24,6 @@ pub struct MemberColumns {
     pub types: Column,
 }
 
-// The role and the type; the member's id is the sum of the next state's memids.
-#[derive(Clone, Copy)]
-pub struct MemberStep {
-    pub told: Told,
-    pub role: i32,
-    pub kind: i32,
-    pub next: MemberColumns,
-}
-
 // Ids, lats and lons of dense nodes.
 #[derive(Clone, Copy)]
 pub struct RowColumns {
@@ -50,82 +32,52 @@ pub struct RowColumns {
     pub lons: Sum64,
 }
 
-// The node's id and raw position are the next state's sums.
-#[derive(Clone, Copy)]
-pub struct RowStep {
-    pub told: Told,
-    pub next: RowColumns,
-}
-
-// The next pair of a key and a value, each by its lowest 32 bits: 12 where only one of them is there.
-pub fn next_tag(s: &[u8], columns: TagColumns) -> TagStep
+// The next pair of a key and a value, each by its lowest 32 bits, with the columns behind it: 12 where only one of them is there.
+pub fn next_tag(s: &[u8], columns: TagColumns) -> Result<Option<((u32, u32), TagColumns)>, Refusal>
     ensures says { tags_said s.now result ≡ tags_ahead s.now columns }
-    ensures inside { tags_inside s.now result.next ≡ true }
+    ensures inside { step_inside (λ r. tags_inside s.now r.1) result ≡ true }
 {
-    let keys = columns.keys;
-    let vals = columns.vals;
-    let k = next_in(s, keys);
-    let v = next_in(s, vals);
-    let first = k.told;
-    let second = v.told;
-    let keys = k.next;
-    let vals = v.next;
-    TagStep {
-        told: in_step(first, second),
-        key: (k.value % 0x1_0000_0000) as u32,
-        value: (v.value % 0x1_0000_0000) as u32,
-        next: TagColumns { keys, vals },
-    }
+    let k = next_value(s, columns.keys);
+    let v = next_value(s, columns.vals);
+    let Some(((key, keys), (value, vals))) = in_step(k, v)? else {
+        return Ok(None);
+    };
+    let pair = ((key % 0x1_0000_0000) as u32, (value % 0x1_0000_0000) as u32);
+    Ok(Some((pair, TagColumns { keys, vals })))
 }
 
-// The next role, memid and type of a member: 12 where only some of them are there.
-pub fn next_member(s: &[u8], columns: MemberColumns) -> MemberStep
+// The role and the type of the next member, with the columns behind it, whose sum of memids is its id: 12 where only some of the three are there.
+pub fn next_member(
+    s: &[u8],
+    columns: MemberColumns,
+) -> Result<Option<((i32, i32), MemberColumns)>, Refusal>
     ensures says { members_said s.now result ≡ members_ahead s.now columns }
-    ensures inside { members_inside s.now result.next ≡ true }
+    ensures inside { step_inside (λ r. members_inside s.now r.1) result ≡ true }
 {
-    let roles = columns.roles;
-    let memids = columns.memids;
-    let types = columns.types;
-    let r = next_in(s, roles);
-    let m = next_sum64(s, memids);
-    let t = next_in(s, types);
-    let first = r.told;
-    let second = m.told;
-    let third = t.told;
-    let roles = r.next;
-    let memids = m.next;
-    let types = t.next;
-    MemberStep {
-        told: in_step(first, in_step(second, third)),
-        role: int32(r.value),
-        kind: int32(t.value),
-        next: MemberColumns {
-            roles,
-            memids,
-            types,
-        },
-    }
+    let r = next_value(s, columns.roles);
+    let m = next_sum64(s, columns.memids);
+    let t = next_value(s, columns.types);
+    let Some(((role, roles), (memids, (kind, types)))) = in_step(r, in_step(m, t))? else {
+        return Ok(None);
+    };
+    let next = MemberColumns {
+        roles,
+        memids,
+        types,
+    };
+    Ok(Some(((int32(role), int32(kind)), next)))
 }
 
-// The next id, lat and lon of a dense node: 12 where only some of them are there.
-pub fn next_row(s: &[u8], columns: RowColumns) -> RowStep
+// The columns behind the next dense node, whose sums are its id, lat and lon: 12 where only some of them are there.
+pub fn next_row(s: &[u8], columns: RowColumns) -> Result<Option<RowColumns>, Refusal>
     ensures says { rows_said s.now result ≡ rows_ahead s.now columns }
-    ensures inside { rows_inside s.now result.next ≡ true }
+    ensures inside { step_inside (λ c. rows_inside s.now c) result ≡ true }
 {
-    let ids = columns.ids;
-    let lats = columns.lats;
-    let lons = columns.lons;
-    let i = next_sum64(s, ids);
-    let y = next_sum64(s, lats);
-    let x = next_sum64(s, lons);
-    let first = i.told;
-    let second = y.told;
-    let third = x.told;
-    let ids = i.next;
-    let lats = y.next;
-    let lons = x.next;
-    RowStep {
-        told: in_step(first, in_step(second, third)),
-        next: RowColumns { ids, lats, lons },
-    }
+    let i = next_sum64(s, columns.ids);
+    let y = next_sum64(s, columns.lats);
+    let x = next_sum64(s, columns.lons);
+    let Some((ids, (lats, lons))) = in_step(i, in_step(y, x))? else {
+        return Ok(None);
+    };
+    Ok(Some(RowColumns { ids, lats, lons }))
 }

@@ -1,7 +1,7 @@
 -- Worked values: what the definitions here say of concrete bytes, records and states, one row for each clause of document 01, section 3, that
 -- they carry. They are proved by computing, so a definition that is changed breaks the row of its clause, whatever the code does. Bytes are
 -- hexadecimal.
-use Rattle.std.specs.Prelude.{ℕ, ◌≡◌, refl, List, [], ◌∷◌, true, ℤ, pos, negsuc}
+use Rattle.std.specs.Prelude.{ℕ, ◌≡◌, refl, List, [], ◌∷◌, true, ℤ, pos, negsuc, Some, None, Ok, Err}
 use Rattle.std.proofs.Math.Option.{none, some}
 use Rattle.protobuf.specs.declared.refusal.Refusal.TheVariants.{VarintCut, Counts, Outside}
 use Rattle.protobuf.specs.declared.column.Column as state
@@ -22,7 +22,6 @@ use Rattle.views.specs.declared.way.WireWay.{WireWay}
 use Rattle.views.specs.declared.relation.WireRelation.{WireRelation}
 use Rattle.wire.specs.declared.record.WireBlock.{WireBlock}
 use Rattle.wire.specs.Block.{last_of, chosen_table}
-use Rattle.lookup.specs.declared.by_number.Got.TheVariants as got
 use Rattle.lookup.specs.Lookup.{get_at, string_parts}
 use Rattle.columns.specs.declared.sums.Sum64.{Sum64}
 use Rattle.columns.specs.InStep.{ahead, start_of}
@@ -257,13 +256,13 @@ pub record Members : Type 0 where
   pub said-refused : member_said buffer within (member.Refused Counts (three_columns 4 5 2 3 1 2)) ≡ end (cut Counts)
   pub behind-ended : member_behind (member.Ended (three_columns 4 5 2 3 1 2)) ≡ three_columns 4 5 2 3 1 2
   pub behind-refused : member_behind (member.Refused Counts (three_columns 4 5 2 3 1 2)) ≡ three_columns 4 5 2 3 1 2
-  pub role-below_the_count : role_at buffer within (pos 1) ≡ got.Text text_one
-  pub role-at_the_count : role_at buffer within (pos 3) ≡ got.None
-  pub role-below-zero : role_at buffer within (negsuc 0) ≡ got.None
-  pub role_text-outside : role_at buffer within (pos 2) ≡ got.Refused Outside
-  pub own-role-below_the_count : role_of two (pos 1) ≡ got.Text (part_by 6 1)
-  pub own-role-at_the_count : role_of two (pos 2) ≡ got.None
-  pub own-role-below-zero : role_of two (negsuc 0) ≡ got.None
+  pub role-below_the_count : role_at buffer within (pos 1) ≡ Ok (Some text_one)
+  pub role-at_the_count : role_at buffer within (pos 3) ≡ Ok None
+  pub role-below-zero : role_at buffer within (negsuc 0) ≡ Ok None
+  pub role_text-outside : role_at buffer within (pos 2) ≡ Err Outside
+  pub own-role-below_the_count : role_of two (pos 1) ≡ Ok (Some (part_by 6 1))
+  pub own-role-at_the_count : role_of two (pos 2) ≡ Ok None
+  pub own-role-below-zero : role_of two (negsuc 0) ≡ Ok None
 
 pub members-worked : Members
 unfolding and_then digits varint unrolled value_at column_from ahead mapped zip signed twos unzigzag zigzag residue wrap sums_from members_by legal tag tag_at raw_varint fixed counted length_delimited value_by field_in fields_of group_by payload field_at message_from little number_at parts_of get_at last_of chosen_table string_parts

@@ -1,14 +1,14 @@
 -- The members of a relation (document 01, section 3): role, running sum of memids and type in step, over any buffer, record and state. The id
 -- is one of four cases by the type. On an ended state nothing is tested; else the record comes first, then all three columns. A role's text
 -- is the string of its number; a negative one has none.
-use Rattle.std.specs.Prelude.{ℕ, zero, suc, ◌+◌, List, ℤ, pos, negsuc}
+use Rattle.std.specs.Prelude.{ℕ, zero, suc, ◌+◌, List, ℤ, pos, negsuc, Option, None, Ok}
 use Rattle.protobuf.specs.declared.refusal.Refusal.TheVariants.{Outside}
 use Rattle.numbers.specs.Choose.{choose}
 use Rattle.protobuf.specs.Stream.{end, more, mapped}
 use Rattle.protobuf.specs.Column.{ended, cut, Column}
+use Rattle.fields.specs.declared.part.Part.{Part}
+use Rattle.fields.specs.Outcome.{Outcome}
 use Rattle.wire.specs.declared.record.WireBlock.{WireBlock}
-use Rattle.lookup.specs.declared.by_number.Got.{Got}
-use Rattle.lookup.specs.declared.by_number.Got.TheVariants as got
 use Rattle.lookup.specs.Lookup.{get_at, is_record_inside, string_of}
 use Rattle.columns.specs.declared.zip.MemberColumns.{MemberColumns}
 use Rattle.columns.specs.InStep.{start_of}
@@ -62,11 +62,11 @@ members_start (element.Relation v) =
 
 -- ---- the text of a role
 
-abbrev pub role_at : List ℕ → WireBlock → ℤ → Got
+abbrev pub role_at : List ℕ → WireBlock → ℤ → Outcome (Option Part)
 role_at s r (pos n) = get_at s r n
-role_at s r (negsuc n) = got.None
+role_at s r (negsuc n) = Ok None
 
 -- of the block's own bytes, which is what the first comes to on what a scan left
-abbrev pub role_of : List ℕ → ℤ → Got
+abbrev pub role_of : List ℕ → ℤ → Outcome (Option Part)
 role_of block (pos n) = string_of block n
-role_of block (negsuc n) = got.None
+role_of block (negsuc n) = Ok None

@@ -1,15 +1,14 @@
 -- The tags of an element (document 01, section 3), over any buffer, record and state: pairs of numbers, from keys and vals in step or from a
 -- dense node's keys_vals, and the parts of the buffer that their texts stand in. They end at the first pair with a number that has no text;
 -- 14 of either text comes before that end. On an ended state nothing is tested; else the record comes first, then the state's columns.
-use Rattle.std.specs.Prelude.{ℕ, zero, suc, List, Bool, true}
+use Rattle.std.specs.Prelude.{ℕ, zero, suc, List, Bool, true, Option, Some, None, Ok, Err}
 use Rattle.protobuf.specs.declared.refusal.Refusal.TheVariants.{VarintCut, Outside}
 use Rattle.numbers.specs.Choose.{choose}
 use Rattle.protobuf.specs.Stream.{end, more, mapped}
 use Rattle.protobuf.specs.Column.{ended, cut, Column}
 use Rattle.fields.specs.declared.part.Part.{Part}
+use Rattle.fields.specs.Outcome.{Outcome}
 use Rattle.wire.specs.declared.record.WireBlock.{WireBlock}
-use Rattle.lookup.specs.declared.by_number.Got.{Got}
-use Rattle.lookup.specs.declared.by_number.Got.TheVariants as got
 use Rattle.lookup.specs.Lookup.{get_at, is_record_inside}
 use Rattle.columns.specs.InStep.{ahead, start_of}
 use Rattle.columns.specs.Inside as columns
@@ -53,16 +52,16 @@ abbrev pub tag_by : RawTag → Part → Part → Tag
 tag_by p key value = record { raw = p; key = key; value = value }
 
 -- a pair by what is found of its key and of its value, and then others
-abbrev pub tag_then : RawTag → Got → Got → Column Tag → Column Tag
-tag_then p (got.Refused r) v others = end (cut r)
-tag_then p got.None (got.Refused r) others = end (cut r)
-tag_then p (got.Text key) (got.Refused r) others = end (cut r)
-tag_then p got.None got.None others = end ended
-tag_then p got.None (got.Text value) others = end ended
-tag_then p (got.Text key) got.None others = end ended
-tag_then p (got.Text key) (got.Text value) others = more (tag_by p key value) others
+abbrev pub tag_then : RawTag → Outcome (Option Part) → Outcome (Option Part) → Column Tag → Column Tag
+tag_then p (Err r) v others = end (cut r)
+tag_then p (Ok None) (Err r) others = end (cut r)
+tag_then p (Ok (Some key)) (Err r) others = end (cut r)
+tag_then p (Ok None) (Ok None) others = end ended
+tag_then p (Ok None) (Ok (Some value)) others = end ended
+tag_then p (Ok (Some key)) (Ok None) others = end ended
+tag_then p (Ok (Some key)) (Ok (Some value)) others = more (tag_by p key value) others
 
-unfoldable pub found_tags : (ℕ → Got) → Column RawTag → Column Tag
+unfoldable pub found_tags : (ℕ → Outcome (Option Part)) → Column RawTag → Column Tag
 found_tags get (end e) = end e
 found_tags get (more p rest) = tag_then p (get p.key) (get p.value) (found_tags get rest)
 

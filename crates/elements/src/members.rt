@@ -9,9 +9,9 @@ use crate::element::Element;
 use columns::inside::are_members_inside;
 use columns::reader::start_column;
 use columns::sums::start_sum64;
-use columns::told::Told;
 use columns::zip::{MemberColumns, next_member};
-use lookup::by_number::{Got, get, is_inside};
+use fields::part::Part;
+use lookup::by_number::{get, is_inside};
 use protobuf::refusal::Refusal;
 use wire::record::WireBlock;
 
@@ -80,25 +80,19 @@ fn next_of(buffer: &[u8], block: WireBlock, columns: MemberColumns) -> RelMember
             next: ended,
         };
     }
-    let r = next_member(buffer, columns);
-    let told = r.told;
-    match told {
-        Told::Refused(refusal) => RelMemberStep::Refused {
+    match next_member(buffer, columns) {
+        Err(refusal) => RelMemberStep::Refused {
             refusal,
             next: ended,
         },
-        Told::Ended => RelMemberStep::Ended { next: ended },
-        Told::Value => {
-            let next = r.next;
-            let memids = next.memids;
-            RelMemberStep::Member {
-                member: RelMember {
-                    role: r.role,
-                    id: member_id(r.kind, memids.sum),
-                },
-                next: RelMemberIter::Members(next),
-            }
-        }
+        Ok(None) => RelMemberStep::Ended { next: ended },
+        Ok(Some(((role, kind), next))) => RelMemberStep::Member {
+            member: RelMember {
+                role,
+                id: member_id(kind, next.memids.sum),
+            },
+            next: RelMemberIter::Members(next),
+        },
     }
 }
 
@@ -142,12 +136,12 @@ impl RelMemberIter {
 
 // The text of a role: none where the number is negative, else what `get` says of it. On the buffer and the record that a scan left it is the
 // block's own string of that number.
-pub fn role_text(buffer: &[u8], block: WireBlock, role: i32) -> Got
+pub fn role_text(buffer: &[u8], block: WireBlock, role: i32) -> Result<Option<Part>, Refusal>
     ensures answer { result ≡ role_at buffer.now block role }
     ensures scanned { (b : List ℕ) (n : ℕ) → Scanned-as buffer.now block b n → result ≡ role_of (take n b) role }
 {
     if role < 0 {
-        Got::None
+        Ok(None)
     } else {
         get(buffer, block, role as usize)
     }

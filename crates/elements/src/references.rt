@@ -5,7 +5,6 @@ ghost use Rattle.elements.specs.References.{refs_from, ref_said, ref_behind, ref
 
 use crate::element::Element;
 use columns::sums::{Sum64, next_sum64, start_sum64};
-use columns::told::Told;
 use protobuf::refusal::Refusal;
 
 #[derive(Clone, Copy)]
@@ -27,21 +26,16 @@ fn next_ref(buffer: &[u8], at: Sum64) -> WayRefStep
     ensures behind { ref_behind result ≡ WayRefIter.Ended }
 {
     let ended = WayRefIter::Ended;
-    let r = next_sum64(buffer, at);
-    let told = r.told;
-    match told {
-        Told::Refused(refusal) => WayRefStep::Refused {
+    match next_sum64(buffer, at) {
+        Err(refusal) => WayRefStep::Refused {
             refusal,
             next: ended,
         },
-        Told::Ended => WayRefStep::Ended { next: ended },
-        Told::Value => {
-            let next = r.next;
-            WayRefStep::Ref {
-                id: next.sum,
-                next: WayRefIter::Refs(next),
-            }
-        }
+        Ok(None) => WayRefStep::Ended { next: ended },
+        Ok(Some(next)) => WayRefStep::Ref {
+            id: next.sum,
+            next: WayRefIter::Refs(next),
+        },
     }
 }
 

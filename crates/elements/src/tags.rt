@@ -8,12 +8,11 @@ ghost use Rattle.elements.specs.Tags.{tag_then, raw_tags_from, tags_by, tags_fro
 
 use crate::element::Element;
 use columns::inside::are_tags_inside;
-use columns::keys_vals::{DenseTag, next_dense_tag};
+use columns::keys_vals::next_dense_tag;
 use columns::reader::start_column;
-use columns::told::Told;
 use columns::zip::{TagColumns, next_tag};
 use fields::part::Part;
-use lookup::by_number::{Got, get, is_inside};
+use lookup::by_number::{get, is_inside};
 use protobuf::column::Column;
 use protobuf::refusal::Refusal;
 use wire::record::WireBlock;
@@ -75,24 +74,19 @@ fn next_of_columns(buffer: &[u8], columns: TagColumns) -> RawTagStep
             next: ended,
         };
     }
-    let r = next_tag(buffer, columns);
-    let told = r.told;
-    match told {
-        Told::Refused(refusal) => RawTagStep::Refused {
+    match next_tag(buffer, columns) {
+        Err(refusal) => RawTagStep::Refused {
             refusal,
             next: ended,
         },
-        Told::Ended => RawTagStep::Ended { next: ended },
-        Told::Value => {
-            let next = r.next;
-            RawTagStep::Tag {
-                tag: RawTag {
-                    key: r.key as u64,
-                    value: r.value as u64,
-                },
-                next: TagIter::Columns(next),
-            }
-        }
+        Ok(None) => RawTagStep::Ended { next: ended },
+        Ok(Some(((key, value), next))) => RawTagStep::Tag {
+            tag: RawTag {
+                key: key as u64,
+                value: value as u64,
+            },
+            next: TagIter::Columns(next),
+        },
     }
 }
 
@@ -102,14 +96,13 @@ fn next_of_dense(buffer: &[u8], column: Column) -> RawTagStep
     ensures behind { raw_tag_behind result ≡ TagIter.Ended }
 {
     let ended = TagIter::Ended;
-    let r = next_dense_tag(buffer, column);
-    match r {
-        DenseTag::Refused(refusal) => RawTagStep::Refused {
+    match next_dense_tag(buffer, column) {
+        Err(refusal) => RawTagStep::Refused {
             refusal,
             next: ended,
         },
-        DenseTag::Done(_) => RawTagStep::Ended { next: ended },
-        DenseTag::Pair { key, value, next } => RawTagStep::Tag {
+        Ok((None, _)) => RawTagStep::Ended { next: ended },
+        Ok((Some((key, value)), next)) => RawTagStep::Tag {
             tag: RawTag { key, value },
             next: TagIter::KeysVals(next),
         },
@@ -125,25 +118,24 @@ fn look_up(buffer: &[u8], block: WireBlock, raw: RawTag, next: TagIter) -> TagIt
     let k = get(buffer, block, raw.key as usize);
     let v = get(buffer, block, raw.value as usize);
     match k {
-        Got::Refused(refusal) => TagIterStep::Refused {
+        Err(refusal) => TagIterStep::Refused {
             refusal,
             next: ended,
         },
-        Got::None => match v {
-            Got::Refused(refusal) => TagIterStep::Refused {
+        Ok(None) => match v {
+            Err(refusal) => TagIterStep::Refused {
                 refusal,
                 next: ended,
             },
-            Got::None => TagIterStep::Ended { next: ended },
-            Got::Text(_) => TagIterStep::Ended { next: ended },
+            Ok(_) => TagIterStep::Ended { next: ended },
         },
-        Got::Text(key) => match v {
-            Got::Refused(refusal) => TagIterStep::Refused {
+        Ok(Some(key)) => match v {
+            Err(refusal) => TagIterStep::Refused {
                 refusal,
                 next: ended,
             },
-            Got::None => TagIterStep::Ended { next: ended },
-            Got::Text(value) => TagIterStep::Tag {
+            Ok(None) => TagIterStep::Ended { next: ended },
+            Ok(Some(value)) => TagIterStep::Tag {
                 tag: Tag { raw, key, value },
                 next,
             },

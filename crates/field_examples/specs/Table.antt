@@ -1,7 +1,7 @@
 -- The starred field examples of document 01, one row of the table for each statement, in its order. They are proved by computing the
 -- definitions that the scan, the views, the check and the listing are held to, so they say what those mean, whatever the code does. A stream
 -- is written with its end. Bytes are hexadecimal.
-use Rattle.std.specs.Prelude.{ℕ, ◌+◌, ◌-◌, ◌*◌, ◌^◌, false, ◌≡◌, refl, List, [], ◌∷◌, ◌++◌, length, replicate, pos, negsuc}
+use Rattle.std.specs.Prelude.{ℕ, ◌+◌, ◌-◌, ◌*◌, ◌^◌, ◌≡◌, refl, List, [], ◌∷◌, ◌++◌, length, replicate, pos, negsuc, None, Ok}
 use Rattle.protobuf.specs.Read.{and_then}
 use Rattle.protobuf.specs.Varint.{digits, varint}
 use Rattle.protobuf.specs.Tag.{legal, tag, tag_at}
@@ -12,11 +12,11 @@ use Rattle.numbers.specs.Signed.{signed, twos, unzigzag, zigzag, residue, wrap}
 use Rattle.numbers.specs.Little.{bytes}
 use Rattle.protobuf.specs.Column.{ended, value_at, column_from, sint64s, sums, sums_from}
 use Rattle.wire.specs.declared.record.WireBlock.{WireBlock}
-use Rattle.fields.specs.Outcome.{Outcome, kept, onward, each}
+use Rattle.fields.specs.Outcome.{Outcome, onward, each}
 use Rattle.fields.specs.Parts.{parts_of, messages_of}
 use Rattle.fields.specs.View.{column_part, info_part, put, store, view_from, view}
 use Rattle.fields.specs.Schema.{way, dense_nodes, info}
-use Rattle.views.specs.Info.{info_fields, info_of}
+use Rattle.views.specs.Info.{info_of}
 use Rattle.groups.specs.Group.{dense_from}
 use Rattle.wire.specs.Tables.{entries}
 use Rattle.wire.specs.Scan.{Scanned, tables_stage, strings_stage, fields_stage, scanned}
@@ -92,17 +92,17 @@ abbrev pub pair : ℕ → ℕ → Pair
 pair k v = record { key = k; value = v }
 
 pub record Starred : Type 0 where
-  pub example1 : buffered [] 0 ≡ kept (record { block = plain_record 0 0 0; table = [] })
+  pub example1 : buffered [] 0 ≡ Ok (record { block = plain_record 0 0 0; table = [] })
   pub example1-accepted : checked [] ≡ passed
   pub example1-listed : full_listing [] ≡ record { plain = record { granularity = pos 100; latoffset = pos 0; lonoffset = pos 0; groups = 0; elements = [] }; dategranularity = pos 1000; metadata = [] }
   pub example1-no-strings : strings_of [] ≡ []
-  pub example2 : buffered block2 24 ≡ kept (record { block = plain_record 9 2 1; table = table2 })
+  pub example2 : buffered block2 24 ≡ Ok (record { block = plain_record 9 2 1; table = table2 })
   pub example2-strings : strings_of block2 ≡ [] ∷ (0x61 ∷ []) ∷ []
   pub example2-group : messages_of 2 block2 ≡ [] ∷ []
   pub example2-no-room : number_of (buffered block2 23) ≡ 13
-  pub example3 : each (λ x. x.block) (buffered block3 24) ≡ kept (plain_record 11 0 1)
+  pub example3 : each (λ x. x.block) (buffered block3 24) ≡ Ok (plain_record 11 0 1)
   pub example3-no-strings : strings_of block3 ≡ []
-  pub example4 : each (λ x. x.block.granularity) (buffered (0x88 ∷ 0x01 ∷ 0xFF ∷ 0xFF ∷ 0xFF ∷ 0xFF ∷ 0x07 ∷ []) 0) ≡ kept (pos 2147483647)
+  pub example4 : each (λ x. x.block.granularity) (buffered (0x88 ∷ 0x01 ∷ 0xFF ∷ 0xFF ∷ 0xFF ∷ 0xFF ∷ 0x07 ∷ []) 0) ≡ Ok (pos 2147483647)
   pub example4-listed : (listing (0x88 ∷ 0x01 ∷ 0xFF ∷ 0xFF ∷ 0xFF ∷ 0xFF ∷ 0x07 ∷ [])).granularity ≡ pos 2147483647
   pub example4-outside : number_of (buffered (0x88 ∷ 0x01 ∷ 0x80 ∷ 0x80 ∷ 0x80 ∷ 0x80 ∷ 0x08 ∷ []) 0) ≡ 8
   pub example5_no-length : number_of (buffered (0x0A ∷ []) 0) ≡ 2
@@ -111,11 +111,11 @@ pub record Starred : Type 0 where
   pub example5_type_six : number_of (buffered (0x0E ∷ []) 0) ≡ 5
   pub example5_type_four : number_of (buffered (0x0C ∷ []) 0) ≡ 5
   pub example6_one-field : message (0x0B ∷ 0x0C ∷ []) ≡ more (skipped 1) (end complete)
-  pub example6_skipped : buffered (0x0B ∷ 0x0C ∷ []) 0 ≡ kept (record { block = plain_record 2 0 0; table = [] })
+  pub example6_skipped : buffered (0x0B ∷ 0x0C ∷ []) 0 ≡ Ok (record { block = plain_record 2 0 0; table = [] })
   pub example6_not_closed : number_of (buffered (0x0B ∷ []) 0) ≡ 6
   pub example6_other-end : number_of (buffered (0x0B ∷ 0x14 ∷ []) 0) ≡ 5
   pub example6_sixteen_one-field : message (replicate 16 0x0B ++ replicate 16 0x0C) ≡ more (skipped 31) (end complete)
-  pub example6_sixteen : buffered (replicate 16 0x0B ++ replicate 16 0x0C) 0 ≡ kept (record { block = plain_record 32 0 0; table = [] })
+  pub example6_sixteen : buffered (replicate 16 0x0B ++ replicate 16 0x0C) 0 ≡ Ok (record { block = plain_record 32 0 0; table = [] })
   pub example6_seventeen : number_of (buffered (replicate 17 0x0B) 0) ≡ 7
   pub example7 : (way_element 0 [] way7).references ≡ pos 1 ∷ pos 2 ∷ pos 1 ∷ []
   pub example7_stream : sums 64 (sint64s (column_in way7 (slots_of way way7) 8)) ≡ more (pos 1) (more (pos 2) (more (pos 1) (end ended)))
@@ -128,7 +128,7 @@ pub record Starred : Type 0 where
   pub example9_single_stream : column_in single9 (slots_of way single9) 8 ≡ more 2 (end ended)
   pub example9_single-passes : check_way single9 ≡ passed
   pub example10 : number_of (check_group (0x12 ∷ 0x00 ∷ 0x12 ∷ 0x00 ∷ [])) ≡ 11
-  pub example11 : each (λ slots. (info_of (info_fields slots)).version.present) (view info (0x08 ∷ 0xFF ∷ 0xFF ∷ 0xFF ∷ 0xFF ∷ 0x0F ∷ [])) ≡ kept false
+  pub example11 : each (λ slots. (info_of slots).version) (view info (0x08 ∷ 0xFF ∷ 0xFF ∷ 0xFF ∷ 0xFF ∷ 0x0F ∷ [])) ≡ Ok None
   pub example12 : (dense_by dense12 (slots_of dense_nodes dense12)).tags ≡ (pair 1 2 ∷ []) ∷ (pair 3 4 ∷ []) ∷ []
   pub example12_stream : column_in dense12 (slots_of dense_nodes dense12) 10 ≡ more 1 (more 2 (more 0 (more 3 (more 4 (end ended)))))
   pub example12-passes : check_dense dense12 ≡ passed

@@ -6,3 +6,4 @@ pub mod Parts
 pub mod View
 pub mod Schema
 pub mod Slot
+pub mod Step

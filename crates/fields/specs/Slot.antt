@@ -1,15 +1,13 @@
--- What an occurrence of a field does to its slot, by the rule that a view answers to its tag, and what the answers on the way say in the
--- definitions' terms. The code keeps the slots in an array, by place.
-use Rattle.std.specs.Prelude.{ℕ, List, [], ◌∷◌, false, eqb}
+-- What an occurrence of a field does to its slot, by the rule that a view answers to its tag. The code keeps the slots in an array, by
+-- place.
+use Rattle.std.specs.Prelude.{ℕ, List, [], ◌∷◌, false, eqb, Ok}
 use Rattle.numbers.specs.Choose.{choose}
-use Rattle.message.specs.Payload.{Payload}
-use Rattle.protobuf.specs.Tag.{Tag}
+use Rattle.message.specs.declared.payload.Payload.{Payload}
+use Rattle.protobuf.specs.declared.tag.Tag.{Tag}
 use Rattle.fields.specs.declared.slot.Slot.{Slot}
 use Rattle.fields.specs.declared.slot.Rule.{Rule}
 use Rattle.fields.specs.declared.slot.Rule.TheVariants as rule
-use Rattle.fields.specs.declared.slot.Put.{Put}
-use Rattle.fields.specs.declared.slot.Put.TheVariants as was
-use Rattle.fields.specs.Outcome.{Outcome, kept, refused}
+use Rattle.fields.specs.Outcome.{Outcome}
 use Rattle.fields.specs.View.{scalar, column, submessage, bytes, Schema, Row, takes, put}
 use Rattle.fields.specs.Schema.{row}
 
@@ -45,8 +43,4 @@ put_by (rule.Scalar k) old p = put scalar old p
 put_by (rule.Column k) old p = put column old p
 put_by (rule.Message k) old p = put submessage old p
 put_by (rule.Bytes k) old p = put bytes old p
-put_by rule.Pass old p = kept old
-
-abbrev pub put_of : Put → Outcome Slot
-put_of (was.Kept x) = kept x
-put_of (was.Refused r) = refused r
+put_by rule.Pass old p = Ok old

@@ -24,6 +24,7 @@ pub fn part_fits(n: usize, start: usize, len: usize) -> bool
 }
 
 // The bytes of a part, themselves and not a copy: empty where nothing is present or the range passes the buffer.
+#[tactic(auto, unfolding(crate::specs::Part::bytes_of))]
 pub fn bytes_of(buffer: &[u8], part: Part) -> &[u8]
     ensures bytes { result.now ≡ bytes_of buffer.now part }
     ensures place { result.ref_ptr ≡ stands_at buffer.now buffer.entry.ref_ptr part }

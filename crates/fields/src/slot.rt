@@ -2,7 +2,7 @@
 ghost use Rattle.std.specs.Prelude.{◌≡◌};
 ghost use Rattle.message.specs.Payload.{payload_of};
 ghost use Rattle.fields.specs.View.{column, submessage, put};
-ghost use Rattle.fields.specs.Slot.{put_by, put_of, place_of};
+ghost use Rattle.fields.specs.Slot.{put_by, place_of};
 
 use crate::part::Part;
 use protobuf::refusal::Refusal;
@@ -24,34 +24,30 @@ pub enum Rule {
     Pass,
 }
 
-#[derive(Clone, Copy)]
-pub enum Put {
-    Kept(Slot),
-    Refused(Refusal),
-}
-
 // An occurrence of a column: an empty one is ignored, and 9 where there was one that is not.
-fn put_column(old: Slot, value: u64, start: usize, len: usize) -> Put
-    ensures { put_of result ≡ put column old (payload_of value start len) }
+#[tactic(auto, unfolding(crate::specs::View::put, crate::specs::View::column_part, crate::specs::Outcome::each))]
+fn put_column(old: Slot, value: u64, start: usize, len: usize) -> Result<Slot, Refusal>
+    ensures { result ≡ put column old (payload_of value start len) }
 {
     let part = old.part;
     if len == 0 {
-        return Put::Kept(Slot { value, part });
+        return Ok(Slot { value, part });
     }
     if part.present {
-        return Put::Refused(Refusal::SecondColumn);
+        return Err(Refusal::SecondColumn);
     }
     let part = Part {
         present: true,
         start,
         len,
     };
-    Put::Kept(Slot { value, part })
+    Ok(Slot { value, part })
 }
 
 // An occurrence of an Info: it replaces an empty one; behind one that is not, an empty one is ignored, and another is 10.
-fn put_message(old: Slot, value: u64, start: usize, len: usize) -> Put
-    ensures { put_of result ≡ put submessage old (payload_of value start len) }
+#[tactic(auto, unfolding(crate::specs::View::put, crate::specs::View::info_part, crate::specs::Outcome::each))]
+fn put_message(old: Slot, value: u64, start: usize, len: usize) -> Result<Slot, Refusal>
+    ensures { result ≡ put submessage old (payload_of value start len) }
 {
     let part = old.part;
     if part.len == 0 {
@@ -60,17 +56,24 @@ fn put_message(old: Slot, value: u64, start: usize, len: usize) -> Put
             start,
             len,
         };
-        return Put::Kept(Slot { value, part });
+        return Ok(Slot { value, part });
     }
     if len == 0 {
-        return Put::Kept(Slot { value, part });
+        return Ok(Slot { value, part });
     }
-    Put::Refused(Refusal::SecondInfo)
+    Err(Refusal::SecondInfo)
 }
 
 // One field's slot: of a number or of bytes, the last one stands.
-pub fn put_slot(rule: Rule, old: Slot, value: u64, start: usize, len: usize) -> Put
-    ensures { put_of result ≡ put_by rule old (payload_of value start len) }
+#[tactic(auto, unfolding(crate::specs::View::put))]
+pub fn put_slot(
+    rule: Rule,
+    old: Slot,
+    value: u64,
+    start: usize,
+    len: usize,
+) -> Result<Slot, Refusal>
+    ensures { result ≡ put_by rule old (payload_of value start len) }
 {
     let part = Part {
         present: true,
@@ -78,11 +81,11 @@ pub fn put_slot(rule: Rule, old: Slot, value: u64, start: usize, len: usize) -> 
         len,
     };
     match rule {
-        Rule::Pass => Put::Kept(old),
+        Rule::Pass => Ok(old),
         Rule::Column(_) => put_column(old, value, start, len),
         Rule::Message(_) => put_message(old, value, start, len),
-        Rule::Scalar(_) => Put::Kept(Slot { value, part }),
-        Rule::Bytes(_) => Put::Kept(Slot { value, part }),
+        Rule::Scalar(_) => Ok(Slot { value, part }),
+        Rule::Bytes(_) => Ok(Slot { value, part }),
     }
 }
 

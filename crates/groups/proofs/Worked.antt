@@ -1,6 +1,6 @@
 -- Worked values: what the definitions here say of concrete bytes, one row for each clause of document 01, sections 2 and 4, that they carry.
 -- They are proved by computing, so a definition that is changed breaks the row of its clause, whatever the code does. Bytes are hexadecimal.
-use Rattle.std.specs.Prelude.{ℕ, ◌≡◌, refl, List, [], ◌∷◌}
+use Rattle.std.specs.Prelude.{ℕ, ◌≡◌, refl, List, [], ◌∷◌, Ok, Err}
 use Rattle.protobuf.specs.declared.refusal.Refusal.TheVariants.{VarintCut, PastEnd, SecondDense, Outside}
 use Rattle.protobuf.specs.Read.{and_then}
 use Rattle.protobuf.specs.Varint.{digits, varint}
@@ -9,15 +9,14 @@ use Rattle.message.specs.Payload.{raw_varint, fixed, counted, length_delimited, 
 use Rattle.protobuf.specs.Stream.{unrolled}
 use Rattle.message.specs.Message.{field_at, message_from}
 use Rattle.fields.specs.declared.part.Part.{Part}
-use Rattle.fields.specs.Outcome.{Outcome, kept, refused, onward, each}
+use Rattle.fields.specs.Outcome.{Outcome, onward, each}
 use Rattle.fields.specs.Part.{part_by, no_part, moved}
+use Rattle.fields.specs.Step.{handed, at_end, refused}
 use Rattle.groups.specs.declared.classify.BlockType.TheVariants.{Empty, Nodes, DenseNodes, Ways, Relations, Mixed}
 use Rattle.groups.specs.declared.group.WireMessageIter.{WireMessageIter}
 use Rattle.groups.specs.declared.group.WireMessageIter.TheVariants as iter
-use Rattle.groups.specs.declared.group.MessageStep.{MessageStep}
-use Rattle.groups.specs.declared.group.MessageStep.TheVariants as step
 use Rattle.groups.specs.Classify.{block_type}
-use Rattle.groups.specs.Group.{dense_from, dense_in, first_part, fresh_iter, message_at, message_step}
+use Rattle.groups.specs.Group.{MessageStep, dense_from, dense_in, first_part, fresh_iter, message_at, message_step}
 
 -- what `dense` answers
 abbrev found_in : List ℕ → ℕ → ℕ → Outcome Part
@@ -27,10 +26,10 @@ abbrev place : ℕ → ℕ → ℕ → ℕ → WireMessageIter
 place start len at field = iter.At (record { start = start; len = len; at = at; field = field })
 
 abbrev ended : MessageStep
-ended = step.Ended iter.Ended
+ended = at_end iter.Ended
 
 abbrev outside : MessageStep
-outside = step.Refused Outside iter.Ended
+outside = refused Outside iter.Ended
 
 -- a byte, then the group: a way, a node of one byte, a dense message, an empty node; then a byte
 abbrev group : List ℕ
@@ -50,22 +49,22 @@ pub record Worked : Type 0 where
   pub kind-two-bytes : block_type (0x8A ∷ 0x01 ∷ []) ≡ Mixed
   pub kind-first : block_type (0x12 ∷ 0x00 ∷ 0x0A ∷ 0x00 ∷ []) ≡ DenseNodes
   -- the dense message: absent, present where it is empty, as a part of the bytes around the group
-  pub dense-none : dense_in (0x0A ∷ 0x00 ∷ 0x10 ∷ 0x05 ∷ []) 0 4 ≡ kept no_part
-  pub dense-empty : dense_in (0x12 ∷ 0x00 ∷ []) 0 2 ≡ kept (part_by 2 0)
-  pub dense-among-others : found_in (0xFF ∷ 0x0A ∷ 0x00 ∷ 0x12 ∷ 0x02 ∷ 0x08 ∷ 0x01 ∷ 0x1A ∷ 0x00 ∷ 0xFF ∷ []) 1 8 ≡ kept (part_by 5 2)
+  pub dense-none : dense_in (0x0A ∷ 0x00 ∷ 0x10 ∷ 0x05 ∷ []) 0 4 ≡ Ok no_part
+  pub dense-empty : dense_in (0x12 ∷ 0x00 ∷ []) 0 2 ≡ Ok (part_by 2 0)
+  pub dense-among-others : found_in (0xFF ∷ 0x0A ∷ 0x00 ∷ 0x12 ∷ 0x02 ∷ 0x08 ∷ 0x01 ∷ 0x1A ∷ 0x00 ∷ 0xFF ∷ []) 1 8 ≡ Ok (part_by 5 2)
   -- 11 at the tag of a second one, before its payload is read; else the first number in reading order
-  pub dense-second : dense_in (0x12 ∷ 0x00 ∷ 0x12 ∷ 0x00 ∷ []) 0 4 ≡ refused SecondDense
-  pub dense-second-past-end : dense_in (0x12 ∷ 0x00 ∷ 0x12 ∷ 0x05 ∷ []) 0 4 ≡ refused SecondDense
-  pub dense-second-no-length : dense_in (0x12 ∷ 0x00 ∷ 0x12 ∷ []) 0 3 ≡ refused SecondDense
-  pub dense-second-cut-length : dense_in (0x12 ∷ 0x00 ∷ 0x12 ∷ 0x80 ∷ []) 0 4 ≡ refused SecondDense
-  pub dense-first-spoilt : dense_in (0x12 ∷ 0x05 ∷ []) 0 2 ≡ refused PastEnd
-  pub dense-other-spoilt : dense_in (0x12 ∷ 0x00 ∷ 0x1A ∷ 0x05 ∷ []) 0 4 ≡ refused PastEnd
-  pub dense-cut-tag : dense_in (0x12 ∷ 0x00 ∷ 0x80 ∷ []) 0 3 ≡ refused VarintCut
-  pub dense-number_ignored : dense_in (0x12 ∷ 0x00 ∷ 0x10 ∷ 0x05 ∷ []) 0 4 ≡ kept (part_by 2 0)
-  pub dense-outside : dense_in (0x12 ∷ 0x00 ∷ 0x12 ∷ []) 0 4 ≡ refused Outside
+  pub dense-second : dense_in (0x12 ∷ 0x00 ∷ 0x12 ∷ 0x00 ∷ []) 0 4 ≡ Err SecondDense
+  pub dense-second-past-end : dense_in (0x12 ∷ 0x00 ∷ 0x12 ∷ 0x05 ∷ []) 0 4 ≡ Err SecondDense
+  pub dense-second-no-length : dense_in (0x12 ∷ 0x00 ∷ 0x12 ∷ []) 0 3 ≡ Err SecondDense
+  pub dense-second-cut-length : dense_in (0x12 ∷ 0x00 ∷ 0x12 ∷ 0x80 ∷ []) 0 4 ≡ Err SecondDense
+  pub dense-first-spoilt : dense_in (0x12 ∷ 0x05 ∷ []) 0 2 ≡ Err PastEnd
+  pub dense-other-spoilt : dense_in (0x12 ∷ 0x00 ∷ 0x1A ∷ 0x05 ∷ []) 0 4 ≡ Err PastEnd
+  pub dense-cut-tag : dense_in (0x12 ∷ 0x00 ∷ 0x80 ∷ []) 0 3 ≡ Err VarintCut
+  pub dense-number_ignored : dense_in (0x12 ∷ 0x00 ∷ 0x10 ∷ 0x05 ∷ []) 0 4 ≡ Ok (part_by 2 0)
+  pub dense-outside : dense_in (0x12 ∷ 0x00 ∷ 0x12 ∷ []) 0 4 ≡ Err Outside
   -- the messages of one field: each with the state behind it, others passed over, then ended
-  pub message-first : message_step group (fresh_iter 1 9 1) ≡ step.Message (part_by 5 1) (place 1 9 5 1)
-  pub message-second : message_step group (place 1 9 5 1) ≡ step.Message (part_by 10 0) (place 1 9 9 1)
+  pub message-first : message_step group (fresh_iter 1 9 1) ≡ handed (part_by 5 1) (place 1 9 5 1)
+  pub message-second : message_step group (place 1 9 5 1) ≡ handed (part_by 10 0) (place 1 9 9 1)
   pub message-last : message_step group (place 1 9 9 1) ≡ ended
   pub message-number : message_step (0x08 ∷ 0x05 ∷ []) (fresh_iter 0 2 1) ≡ ended
   -- a wire error ends quietly, and ended stays ended whatever the buffer is then

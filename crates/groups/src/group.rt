@@ -1,24 +1,18 @@
 // PrimitiveGroup: its dense message, and its messages of one field, one after the other.
-ghost use Rattle.std.specs.Prelude.{◌≡◌, false, ◌+◌, ◌/◌, ◌%◌, ◌^◌, ◌<◌, eqb};
+ghost use Rattle.std.specs.Prelude.{◌≡◌, false, ◌+◌, ◌/◌, ◌%◌, ◌^◌, ◌<◌, eqb, Err};
 ghost use Rattle.numbers.specs.Choose.{choose};
 ghost use Rattle.protobuf.specs.Tag.{split};
 ghost use Rattle.message.specs.Message.{message, message_from};
 ghost use Rattle.message.specs.Answers.{field_by};
-ghost use Rattle.fields.specs.Outcome.{refused, each};
+ghost use Rattle.fields.specs.Outcome.{each};
 ghost use Rattle.fields.specs.Part.{no_part, moved};
-ghost use Rattle.groups.specs.Group.{dense_tag, dense_field, dense_from, dense_in, found_dense, first_part, fresh_iter, message_at, message_step};
+ghost use Rattle.groups.specs.Group.{dense_tag, dense_field, dense_from, dense_in, first_part, fresh_iter, message_at, message_step};
 
 use fields::part::{NONE, Part, part_fits};
 use fields::schema::primitive_group::DENSE;
-use message::field::{Field, next_field};
+use fields::step::Step;
+use message::field::{Field, NoField, next_field};
 use protobuf::refusal::Refusal;
-
-#[derive(Clone, Copy)]
-pub enum DenseFound {
-    // The dense message's part, present or not.
-    Found(Part),
-    Refused(Refusal),
-}
 
 // Where an iteration over a group's messages of `field` stands: the group's range, and the place in it.
 #[derive(Clone, Copy)]
@@ -33,22 +27,6 @@ pub struct MessagePlace {
 pub enum WireMessageIter {
     Ended,
     At(MessagePlace),
-}
-
-// Every answer hands back a state: behind ended and behind a refusal it is the ended one.
-#[derive(Clone, Copy)]
-pub enum MessageStep {
-    Message {
-        part: Part,
-        next: WireMessageIter,
-    },
-    Ended {
-        next: WireMessageIter,
-    },
-    Refused {
-        refusal: Refusal,
-        next: WireMessageIter,
-    },
 }
 
 // A part of a message that begins at `base`, as a part of the bytes around it.
@@ -68,25 +46,25 @@ fn part_at(base: usize, part: Part) -> Part
 }
 
 // A field's effect on the dense message found so far: 11 where it is a second one.
-fn take_dense(found: Part, tag: u32, start: usize, len: usize) -> DenseFound
-    ensures { found_dense result ≡ dense_field found (field_by tag 0 start len) }
+fn take_dense(found: Part, field: Field) -> Result<Part, Refusal>
+    ensures { result ≡ dense_field found (field_by field.tag field.value field.start field.len) }
 {
-    if tag != DENSE {
-        return DenseFound::Found(found);
+    if field.tag != DENSE {
+        return Ok(found);
     }
     if found.present {
-        return DenseFound::Refused(Refusal::SecondDense);
+        return Err(Refusal::SecondDense);
     }
-    let mut dense = found;
-    dense.present = true;
-    dense.start = start;
-    dense.len = len;
-    DenseFound::Found(dense)
+    Ok(Part {
+        present: true,
+        start: field.start,
+        len: field.len,
+    })
 }
 
 // The refusal at a tag whose payload is refused: 11 where it is a second dense field, before the payload's own.
 fn spoilt_dense(found: Part, tag: u32, refusal: Refusal) -> Refusal
-    ensures { refused result ≡ dense_tag found (split tag) (refused refusal) }
+    ensures { Err result ≡ dense_tag found (split tag) (Err refusal) }
 {
     if tag != DENSE {
         return refusal;
@@ -98,34 +76,19 @@ fn spoilt_dense(found: Part, tag: u32, refusal: Refusal) -> Refusal
 }
 
 // The dense message of the group `s`, as a part of it.
-fn dense_part(s: &[u8]) -> DenseFound
-    ensures { found_dense result ≡ dense_from no_part (message s.now) }
+fn dense_part(s: &[u8]) -> Result<Part, Refusal>
+    ensures { result ≡ dense_from no_part (message s.now) }
 {
     let mut found = NONE;
     let mut at = 0;
     loop {
-        let f = next_field(s, at);
-        match f {
-            Field::Complete => return DenseFound::Found(found),
-            Field::Cut(n) => return DenseFound::Refused(n),
-            Field::Spoilt { tag, refusal } => return DenseFound::Refused(spoilt_dense(
-                found, tag, refusal,
-            )),
-            Field::Read {
-                tag,
-                value: _,
-                start,
-                len,
-                next,
-            } => {
-                let t = take_dense(found, tag, start, len);
-                match t {
-                    DenseFound::Refused(n) => return DenseFound::Refused(n),
-                    DenseFound::Found(p) => {
-                        found = p;
-                        at = next;
-                    }
-                }
+        match next_field(s, at) {
+            Err(NoField::Cut(refusal)) => return Err(refusal),
+            Err(NoField::Spoilt { tag, refusal }) => return Err(spoilt_dense(found, tag, refusal)),
+            Ok(None) => return Ok(found),
+            Ok(Some((field, next))) => {
+                found = take_dense(found, field)?;
+                at = next;
             }
         }
     }
@@ -133,18 +96,15 @@ fn dense_part(s: &[u8]) -> DenseFound
 
 // The dense message of the group in `len` bytes from `start`, as a part of the buffer, not present where the group has none: 14 where the
 // group passes the buffer, then the stream's refusals, and 11 at the tag of a second dense field, before its payload's refusal.
-pub fn dense(buffer: &[u8], start: usize, len: usize) -> DenseFound
-    ensures { found_dense result ≡ each (moved start) (dense_in buffer.now start len) }
+pub fn dense(buffer: &[u8], start: usize, len: usize) -> Result<Part, Refusal>
+    ensures { result ≡ each (moved start) (dense_in buffer.now start len) }
 {
     if !part_fits(buffer.len(), start, len) {
-        return DenseFound::Refused(Refusal::Outside);
+        return Err(Refusal::Outside);
     }
     let end = start + len;
-    let r = dense_part(&buffer[start..end]);
-    match r {
-        DenseFound::Refused(n) => DenseFound::Refused(n),
-        DenseFound::Found(p) => DenseFound::Found(part_at(start, p)),
-    }
+    let found = dense_part(&buffer[start..end])?;
+    Ok(part_at(start, found))
 }
 
 // Whether a tag is that of a message in `field`.
@@ -160,31 +120,21 @@ fn first_part(s: &[u8], from: usize, field: u32) -> Part
     ensures { result ≡ first_part field (message_from s.now from) }
 {
     let mut at = from;
-    loop {
-        let f = next_field(s, at);
-        let Field::Read {
-            tag,
-            value: _,
-            start,
-            len,
-            next,
-        } = f
-        else {
-            return NONE;
-        };
-        if is_message(tag, field) {
+    while let Some((found, next)) = next_field(s, at).unwrap_or(None) {
+        if is_message(found.tag, field) {
             return Part {
                 present: true,
-                start,
-                len,
+                start: found.start,
+                len: found.len,
             };
         }
         at = next;
     }
+    NONE
 }
 
 // The step of a state that has not ended.
-fn step_at(buffer: &[u8], place: MessagePlace) -> MessageStep
+fn step_at(buffer: &[u8], place: MessagePlace) -> Step<Part, WireMessageIter>
     ensures { result ≡ message_at buffer.now place }
 {
     let start = place.start;
@@ -193,14 +143,14 @@ fn step_at(buffer: &[u8], place: MessagePlace) -> MessageStep
     let field = place.field;
     let ended = WireMessageIter::Ended;
     if !part_fits(buffer.len(), start, len) {
-        return MessageStep::Refused {
-            refusal: Refusal::Outside,
+        return Step {
+            said: Err(Refusal::Outside),
             next: ended,
         };
     }
     if len < at {
-        return MessageStep::Refused {
-            refusal: Refusal::Outside,
+        return Step {
+            said: Err(Refusal::Outside),
             next: ended,
         };
     }
@@ -210,12 +160,15 @@ fn step_at(buffer: &[u8], place: MessagePlace) -> MessageStep
         let part = part_at(start, p);
         let mut behind = place;
         behind.at = p.start + p.len;
-        return MessageStep::Message {
-            part,
+        return Step {
+            said: Ok(Some(part)),
             next: WireMessageIter::At(behind),
         };
     }
-    MessageStep::Ended { next: ended }
+    Step {
+        said: Ok(None),
+        next: WireMessageIter::Ended,
+    }
 }
 
 impl WireMessageIter {
@@ -235,12 +188,13 @@ impl WireMessageIter {
     // The next message of the state's field, as a part of the buffer, with the state behind it: 14 where the group passes the buffer or the
     // place passes the group. It says ended where no such message comes before the group's end or a wire error, which it does not tell.
     // Behind ended and behind 14 the state is ended, and a step on it says ended whatever the buffer is.
-    pub fn step(self, buffer: &[u8]) -> MessageStep
+    pub fn step(self, buffer: &[u8]) -> Step<Part, WireMessageIter>
         ensures { result ≡ message_step buffer.now self }
     {
         match self {
-            WireMessageIter::Ended => MessageStep::Ended {
-                next: WireMessageIter::Ended,
+            WireMessageIter::Ended => Step {
+                said: Ok(None),
+                next: self,
             },
             WireMessageIter::At(place) => step_at(buffer, place),
         }

@@ -1,13 +1,13 @@
 -- The dense nodes that a walk has ahead in a group (document 01, section 3), over any buffer and place. Reading order: id, lat, lon; in a
 -- full walk the info row; then the end where all three have ended, and 12 where only some have; then keys_vals. So a bad varint of a row or
 -- of its info comes before 12 and before the end, and nodes do not stop where info has ended.
-use Rattle.std.specs.Prelude.{ℕ, List, ℤ, eqb}
+use Rattle.std.specs.Prelude.{ℕ, List, ℤ, eqb, Ok, Err}
 use Rattle.std.proofs.Math.Option.{Option, none, some}
 use Rattle.protobuf.specs.Refusal.{number}
 use Rattle.numbers.specs.Choose.{choose}
 use Rattle.protobuf.specs.Stream.{end, more}
 use Rattle.protobuf.specs.Column.{ColumnEnd, ended, cut, Column}
-use Rattle.fields.specs.Outcome.{Outcome, kept, refused}
+use Rattle.fields.specs.Outcome.{Outcome}
 use Rattle.block.specs.Infos.{Infos, NextInfo, present, missing, stopped, next_info}
 use Rattle.block.specs.Tags.{NodePairs, take_pairs}
 use Rattle.columns.specs.InStep.{ahead}
@@ -43,8 +43,8 @@ rows_end ended infos = read_info infos λ i others. end ended
 rows_end (cut r) infos = choose (eqb (number r) 12) (read_info infos λ i others. end (cut r)) (end (cut r))
 
 abbrev pub behind_pairs : {A : Type 0} → Outcome NodePairs → (Column ℕ → Column A) → Column A
-behind_pairs (kept found) others = others found.rest
-behind_pairs (refused r) others = end (cut r)
+behind_pairs (Ok found) others = others found.rest
+behind_pairs (Err r) others = end (cut r)
 
 abbrev pub node_by : Row → Column ℕ → RowInfo → DenseItem
 node_by x keyvals i = record { id = x.first; lat = x.second.first; lon = x.second.second; tags = pairs_of keyvals; info = i }

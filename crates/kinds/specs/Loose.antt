@@ -1,14 +1,14 @@
 -- The nodes, ways and relations that a walk has ahead in a group (document 01, section 4), over any buffer and place: each message of the
 -- kind's field in stored order, viewed when it is handed out; what the view refuses ends the walk. The fields end quietly where the group
 -- has a wire error: a walk has read all of them when it entered the group. A plain walk hands out no Info. A place that is outside is 14.
-use Rattle.std.specs.Prelude.{ℕ, ◌+◌, List, [], ◌∷◌, map, Bool, true, false, leb, length, take, drop}
+use Rattle.std.specs.Prelude.{ℕ, ◌+◌, List, [], ◌∷◌, map, Bool, true, false, leb, length, take, drop, Ok, Err}
 use Rattle.numbers.specs.Choose.{choose}
 use Rattle.protobuf.specs.declared.refusal.Refusal.TheVariants.{Outside}
 use Rattle.message.specs.Message.{message_from}
 use Rattle.protobuf.specs.Stream.{end, more}
 use Rattle.protobuf.specs.Column.{ended, cut, Column}
 use Rattle.fields.specs.declared.part.Part.{Part}
-use Rattle.fields.specs.Outcome.{Outcome, kept, refused, each}
+use Rattle.fields.specs.Outcome.{Outcome, each}
 use Rattle.fields.specs.Part.{no_part, moved}
 use Rattle.fields.specs.Parts.{parts_of}
 use Rattle.fields.specs.View.{view_in}
@@ -60,8 +60,8 @@ pub record Placed : Type 0 where
   pub item : Item
 
 abbrev pub item_then : Part → Outcome Item → Column Placed → Column Placed
-item_then p (kept i) others = more (record { message = p; item = i }) others
-item_then p (refused r) others = end (cut r)
+item_then p (Ok i) others = more (record { message = p; item = i }) others
+item_then p (Err r) others = end (cut r)
 
 unfoldable pub viewed_all : Bool → Loose → List ℕ → List Part → Column Placed
 viewed_all full kind s [] = end ended

@@ -1,39 +1,32 @@
--- What the answers of the steps over one kind say, in the definitions' terms: a message viewed, the next message of a kind, the next dense
--- node; and whether the place that they hand back is inside.
-use Rattle.std.specs.Prelude.{ℕ, ◌≡◌, List, Bool, true, false, leb, ltb, eqb, length, get_or}
+-- What the answers of the steps over one kind say, in the definitions' terms: the next message of a kind, the next dense node; and whether
+-- the place that they hand back is inside.
+use Rattle.std.specs.Prelude.{ℕ, ◌≡◌, List, Bool, true, false, leb, ltb, eqb, length, get_or, Ok, Err}
 use Rattle.std.proofs.Math.Option.{none, some}
 use Rattle.protobuf.specs.Stream.{end, more}
 use Rattle.protobuf.specs.Column.{ended, cut, Column}
 use Rattle.protobuf.specs.declared.refusal.Refusal.{Refusal}
 use Rattle.protobuf.specs.declared.column.Column as state
-use Rattle.fields.specs.Outcome.{Outcome, kept, refused}
+use Rattle.fields.specs.Outcome.{Outcome}
 use Rattle.block.specs.Infos.{Infos, NextInfo}
 use Rattle.block.specs.Infos as infos
-use Rattle.columns.specs.Inside.{also, column_inside, rows_inside, infos_inside}
+use Rattle.columns.specs.Inside.{also, kept_inside, column_inside, rows_inside, infos_inside}
 use Rattle.columns.specs.Zip.{infos_ahead}
 use Rattle.columns.specs.declared.info_rows.InfoColumns.{InfoColumns}
+use Rattle.elements.specs.declared.element.NodeInfo.{NodeInfo}
 use Rattle.elements.specs.Element.{RowInfo, row, row_of, DenseItem, Item, item_of}
 use Rattle.kinds.specs.declared.state.DenseColumns.{DenseColumns}
 use Rattle.kinds.specs.declared.dense_nodes.DenseStep.{DenseStep}
 use Rattle.kinds.specs.declared.dense_nodes.DenseStep.TheVariants as dense
-use Rattle.kinds.specs.declared.dense_nodes.InfoRow.{InfoRow}
-use Rattle.kinds.specs.declared.dense_nodes.InfoRow.TheVariants as info
 use Rattle.kinds.specs.declared.dense_nodes.FullDenseStep.{FullDenseStep}
 use Rattle.kinds.specs.declared.dense_nodes.FullDenseStep.TheVariants as full
 use Rattle.kinds.specs.declared.dense_nodes.NextNode.{NextNode}
 use Rattle.kinds.specs.Dense.{rows_end, dense_ahead, full_dense_ahead, node_between, dense_said}
 use Rattle.kinds.specs.declared.state.Messages.{Messages}
-use Rattle.kinds.specs.declared.messages.Viewed.{Viewed}
-use Rattle.kinds.specs.declared.messages.Viewed.TheVariants as viewed
 use Rattle.kinds.specs.declared.messages.LooseStep.{LooseStep}
 use Rattle.kinds.specs.declared.messages.LooseStep.TheVariants as step
 use Rattle.kinds.specs.Loose.{Placed, loose_from}
 
--- ---- a message
-
-abbrev pub viewed_of : List ℕ → Viewed → Outcome Item
-viewed_of s (viewed.Element e) = kept (item_of s e)
-viewed_of s (viewed.Refused r) = refused r
+-- ---- the messages of a kind
 
 -- a state at another place of its group
 abbrev pub at_place : Messages → ℕ → Messages
@@ -76,22 +69,20 @@ pub record NodeSaid (s : List ℕ) (d : DenseColumns) (r : NextNode) : Type 0 wh
   pub none : r.found ≡ 0 → is_end (dense_ahead s d) ≡ true
 
 -- an info row that is read, present or missing, with the columns behind it
-pub data ReadRow : Type 0 where
-  read : RowInfo → Infos → ReadRow
-  stopped : Refusal → ReadRow
+abbrev pub ReadRow : Type 0
+ReadRow = Outcome (RowInfo × Infos)
 
 abbrev pub read_row : NextInfo → ReadRow
-read_row (infos.present i rest) = read (row (some i)) rest
-read_row (infos.missing rest) = read (row none) rest
-read_row (infos.stopped r) = stopped r
+read_row (infos.present i rest) = Ok (row (some i), rest)
+read_row (infos.missing rest) = Ok (row none, rest)
+read_row (infos.stopped r) = Err r
 
-abbrev pub row_read : List ℕ → InfoRow → ReadRow
-row_read s (info.Read i next) = read (row_of i) (infos_ahead s next)
-row_read s (info.Refused r) = stopped r
+abbrev pub row_read : List ℕ → Outcome (NodeInfo × InfoColumns) → ReadRow
+row_read s (Ok (i, next)) = Ok (row_of i, infos_ahead s next)
+row_read s (Err r) = Err r
 
-abbrev pub row_inside : List ℕ → InfoRow → Bool
-row_inside s (info.Read i next) = infos_inside s next
-row_inside s (info.Refused r) = true
+abbrev pub row_inside : List ℕ → Outcome (NodeInfo × InfoColumns) → Bool
+row_inside s = kept_inside λ r. infos_inside s r.1
 
 -- what a step of the full walk says
 abbrev pub full_dense_said : List ℕ → DenseColumns → FullDenseStep → Column DenseItem

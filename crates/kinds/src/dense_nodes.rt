@@ -12,10 +12,9 @@ ghost use Rattle.columns.specs.Zip.{moved_sum};
 ghost use Rattle.kinds.specs.Said.{zero_next, NodeSaid, row_read, read_row, row_inside, dense_step_inside, RefusedRow, full_dense_said, full_step_inside};
 
 use crate::state::DenseColumns;
-use columns::info_rows::{InfoColumns, InfoStep, next_info};
-use columns::keys_vals::{Behind, pass_pairs};
+use columns::info_rows::{InfoColumns, next_info};
+use columns::keys_vals::pass_pairs;
 use columns::sums::Sum64;
-use columns::told::Told;
 use columns::zip::{RowColumns, next_row};
 use elements::element::{DenseNodeInfo, NodeInfo};
 use numbers::signed::{wrapping_add_i64, zigzag_i64};
@@ -49,13 +48,6 @@ pub enum FullDenseStep {
     Refused(Refusal),
 }
 
-// The metadata of the next node, whether it has any or not.
-#[derive(Clone, Copy)]
-enum InfoRow {
-    Read { info: NodeInfo, next: InfoColumns },
-    Refused(Refusal),
-}
-
 // Whether the next value of keys_vals is 0 in one byte, as it is where a node has no pairs. A column that is outside has no next value.
 pub fn has_no_pairs(buffer: &[u8], keyvals: Column) -> bool
     ensures { result ≡ zero_next buffer.now keyvals }
@@ -72,12 +64,12 @@ pub fn has_no_pairs(buffer: &[u8], keyvals: Column) -> bool
 }
 
 // Past one node's pairs: most nodes have none, and then one byte is passed.
-fn pass_node(buffer: &[u8], keyvals: Column) -> Behind
+fn pass_node(buffer: &[u8], keyvals: Column) -> Result<Column, Refusal>
     ensures says { behind_of buffer.now result ≡ each rest_of (take_pairs (ahead buffer.now keyvals)) }
     ensures inside { behind_inside buffer.now result ≡ true }
 {
     if has_no_pairs(buffer, keyvals) {
-        return Behind::Column(Column {
+        return Ok(Column {
             at: keyvals.at + 1,
             end: keyvals.end,
         });
@@ -91,24 +83,13 @@ pub fn next_dense(buffer: &[u8], columns: DenseColumns) -> DenseStep
     ensures says { dense_said buffer.now columns result ≡ dense_ahead buffer.now columns }
     ensures inside { dense_step_inside buffer.now result ≡ true }
 {
-    let rows = columns.rows;
-    let keyvals = columns.keyvals;
-    let r = next_row(buffer, rows);
-    let told = r.told;
-    match told {
-        Told::Refused(n) => DenseStep::Refused(n),
-        Told::Ended => DenseStep::Ended,
-        Told::Value => {
-            let next = r.next;
-            let b = pass_node(buffer, keyvals);
-            match b {
-                Behind::Refused(n) => DenseStep::Refused(n),
-                Behind::Column(behind) => DenseStep::Node(DenseColumns {
-                    rows: next,
-                    keyvals: behind,
-                }),
-            }
-        }
+    match next_row(buffer, columns.rows) {
+        Err(n) => DenseStep::Refused(n),
+        Ok(None) => DenseStep::Ended,
+        Ok(Some(rows)) => match pass_node(buffer, columns.keyvals) {
+            Err(n) => DenseStep::Refused(n),
+            Ok(keyvals) => DenseStep::Node(DenseColumns { rows, keyvals }),
+        },
     }
 }
 
@@ -162,59 +143,40 @@ pub fn next_node(buffer: &[u8], columns: DenseColumns) -> NextNode
     if lon == 0 {
         return any_node(buffer, columns);
     }
-    let b = pass_node(buffer, keyvals);
-    match b {
-        Behind::Refused(_) => return NextNode { found: 0, columns },
-        Behind::Column(behind) => {
-            return NextNode {
-                found: 1,
-                columns: DenseColumns {
-                    rows: RowColumns {
-                        ids: move_sum(rows.ids, id),
-                        lats: move_sum(rows.lats, lat),
-                        lons: move_sum(rows.lons, lon),
-                    },
-                    keyvals: behind,
-                },
-            };
-        }
+    let Ok(behind) = pass_node(buffer, keyvals) else {
+        return NextNode { found: 0, columns };
+    };
+    NextNode {
+        found: 1,
+        columns: DenseColumns {
+            rows: RowColumns {
+                ids: move_sum(rows.ids, id),
+                lats: move_sum(rows.lats, lat),
+                lons: move_sum(rows.lons, lon),
+            },
+            keyvals: behind,
+        },
     }
 }
 
 // The info row of the next node: its values are the sums of the columns behind it.
-fn read_info(buffer: &[u8], infos: InfoColumns) -> InfoRow
+fn read_info(buffer: &[u8], infos: InfoColumns) -> Result<(NodeInfo, InfoColumns), Refusal>
     ensures says { row_read buffer.now result ≡ read_row (next_info (infos_ahead buffer.now infos)) }
     ensures inside { infos_inside buffer.now infos ≡ true → row_inside buffer.now result ≡ true }
 {
-    let i = next_info(buffer, infos);
-    match i {
-        InfoStep::Refused(n) => InfoRow::Refused(n),
-        InfoStep::Missing(next) => InfoRow::Read {
-            info: NodeInfo::Missing,
-            next,
-        },
-        InfoStep::Row {
-            version,
-            visible,
-            next,
-        } => {
-            let timestamp = next.timestamp;
-            let changeset = next.changeset;
-            let uid = next.uid;
-            let user = next.user;
-            InfoRow::Read {
-                info: NodeInfo::Row(DenseNodeInfo {
-                    version,
-                    timestamp: timestamp.sum,
-                    changeset: changeset.sum,
-                    uid: uid.sum,
-                    user: user.sum,
-                    visible,
-                }),
-                next,
-            }
-        }
-    }
+    let (row, next) = next_info(buffer, infos)?;
+    let Some(row) = row else {
+        return Ok((NodeInfo::Missing, next));
+    };
+    let info = NodeInfo::Row(DenseNodeInfo {
+        version: row.version,
+        timestamp: next.timestamp.sum,
+        changeset: next.changeset.sum,
+        uid: next.uid.sum,
+        user: next.user.sum,
+        visible: row.visible,
+    });
+    Ok((info, next))
 }
 
 // The refusal of a row: that of its own columns at once, 12 behind the info row.
@@ -224,10 +186,9 @@ fn row_refusal(buffer: &[u8], infos: InfoColumns, refusal: Refusal) -> Refusal
     if number(refusal) != 12 {
         return refusal;
     }
-    let i = read_info(buffer, infos);
-    match i {
-        InfoRow::Refused(n) => n,
-        InfoRow::Read { info: _, next: _ } => refusal,
+    match read_info(buffer, infos) {
+        Err(n) => n,
+        Ok(_) => refusal,
     }
 }
 
@@ -237,39 +198,22 @@ pub fn next_full_dense(buffer: &[u8], columns: DenseColumns, infos: InfoColumns)
     ensures says { full_dense_said buffer.now columns result ≡ full_dense_ahead buffer.now columns infos }
     ensures inside { infos_inside buffer.now infos ≡ true → full_step_inside buffer.now result ≡ true }
 {
-    let rows = columns.rows;
-    let keyvals = columns.keyvals;
-    let r = next_row(buffer, rows);
-    let told = r.told;
-    match told {
-        Told::Refused(n) => FullDenseStep::Refused(row_refusal(buffer, infos, n)),
-        Told::Ended => {
-            let i = read_info(buffer, infos);
-            match i {
-                InfoRow::Refused(n) => FullDenseStep::Refused(n),
-                InfoRow::Read { info: _, next: _ } => FullDenseStep::Ended,
-            }
-        }
-        Told::Value => {
-            let rows = r.next;
-            let i = read_info(buffer, infos);
-            match i {
-                InfoRow::Refused(n) => FullDenseStep::Refused(n),
-                InfoRow::Read { info, next } => {
-                    let b = pass_node(buffer, keyvals);
-                    match b {
-                        Behind::Refused(n) => FullDenseStep::Refused(n),
-                        Behind::Column(behind) => FullDenseStep::Node {
-                            info,
-                            columns: DenseColumns {
-                                rows,
-                                keyvals: behind,
-                            },
-                            infos: next,
-                        },
-                    }
-                }
-            }
-        }
+    match next_row(buffer, columns.rows) {
+        Err(n) => FullDenseStep::Refused(row_refusal(buffer, infos, n)),
+        Ok(None) => match read_info(buffer, infos) {
+            Err(n) => FullDenseStep::Refused(n),
+            Ok(_) => FullDenseStep::Ended,
+        },
+        Ok(Some(rows)) => match read_info(buffer, infos) {
+            Err(n) => FullDenseStep::Refused(n),
+            Ok((info, infos)) => match pass_node(buffer, columns.keyvals) {
+                Err(n) => FullDenseStep::Refused(n),
+                Ok(keyvals) => FullDenseStep::Node {
+                    info,
+                    columns: DenseColumns { rows, keyvals },
+                    infos,
+                },
+            },
+        },
     }
 }

@@ -1,24 +1,20 @@
 // The messages of a group: its nodes, its ways, its relations, each viewed when it is handed out.
 ghost use Rattle.std.specs.Prelude.{◌≡◌, true};
+ghost use Rattle.fields.specs.Outcome.{each};
+ghost use Rattle.elements.specs.Element.{item_of};
 ghost use Rattle.kinds.specs.declared.state.Loose.TheVariants.{Nodes, Ways, Relations};
 ghost use Rattle.kinds.specs.Loose.{field_of, info_in, viewed_as, loose_from};
-ghost use Rattle.kinds.specs.Said.{viewed_of, loose_said, place_inside};
+ghost use Rattle.kinds.specs.Said.{loose_said, place_inside};
 
 use crate::state::{Loose, Messages};
 use elements::element::Element;
 use fields::part::{NONE, Part};
-use groups::group::{MessagePlace, MessageStep, WireMessageIter};
+use groups::group::{MessagePlace, WireMessageIter};
 use protobuf::refusal::Refusal;
-use views::node::{NodeParse, WireNode};
-use views::relation::{RelationParse, WireRelation};
-use views::way::{WayParse, WireWay};
-
-// A message as an element.
-#[derive(Clone, Copy)]
-enum Viewed {
-    Element(Element),
-    Refused(Refusal),
-}
+use views::node::WireNode;
+use views::relation::WireRelation;
+use views::view::View;
+use views::way::WireWay;
 
 #[derive(Clone, Copy)]
 pub enum LooseStep {
@@ -50,59 +46,35 @@ pub fn info_in(full: bool, part: Part) -> Part
 }
 
 // A node's message as an element.
-fn view_node(buffer: &[u8], full: bool, message: Part) -> Viewed
-    ensures { viewed_of buffer.now result ≡ viewed_as full Nodes buffer.now message }
+fn view_node(buffer: &[u8], full: bool, message: Part) -> Result<Element, Refusal>
+    ensures { each (item_of buffer.now) result ≡ viewed_as full Nodes buffer.now message }
 {
-    let p = WireNode::parse(buffer, message.start, message.len);
-    match p {
-        NodeParse::Refused(n) => Viewed::Refused(n),
-        NodeParse::Parsed(v) => {
-            let part = v.info;
-            let info = info_in(full, part);
-            let mut shown = v;
-            shown.info = info;
-            Viewed::Element(Element::Node(shown))
-        }
-    }
+    let mut v = WireNode::parse(buffer, message.start, message.len)?;
+    v.info = info_in(full, v.info);
+    Ok(Element::Node(v))
 }
 
 // A way's.
-fn view_way(buffer: &[u8], full: bool, message: Part) -> Viewed
-    ensures { viewed_of buffer.now result ≡ viewed_as full Ways buffer.now message }
+fn view_way(buffer: &[u8], full: bool, message: Part) -> Result<Element, Refusal>
+    ensures { each (item_of buffer.now) result ≡ viewed_as full Ways buffer.now message }
 {
-    let p = WireWay::parse(buffer, message.start, message.len);
-    match p {
-        WayParse::Refused(n) => Viewed::Refused(n),
-        WayParse::Parsed(v) => {
-            let part = v.info;
-            let info = info_in(full, part);
-            let mut shown = v;
-            shown.info = info;
-            Viewed::Element(Element::Way(shown))
-        }
-    }
+    let mut v = WireWay::parse(buffer, message.start, message.len)?;
+    v.info = info_in(full, v.info);
+    Ok(Element::Way(v))
 }
 
 // A relation's.
-fn view_relation(buffer: &[u8], full: bool, message: Part) -> Viewed
-    ensures { viewed_of buffer.now result ≡ viewed_as full Relations buffer.now message }
+fn view_relation(buffer: &[u8], full: bool, message: Part) -> Result<Element, Refusal>
+    ensures { each (item_of buffer.now) result ≡ viewed_as full Relations buffer.now message }
 {
-    let p = WireRelation::parse(buffer, message.start, message.len);
-    match p {
-        RelationParse::Refused(n) => Viewed::Refused(n),
-        RelationParse::Parsed(v) => {
-            let part = v.info;
-            let info = info_in(full, part);
-            let mut shown = v;
-            shown.info = info;
-            Viewed::Element(Element::Relation(shown))
-        }
-    }
+    let mut v = WireRelation::parse(buffer, message.start, message.len)?;
+    v.info = info_in(full, v.info);
+    Ok(Element::Relation(v))
 }
 
 // A message of any kind.
-fn view(buffer: &[u8], full: bool, kind: Loose, message: Part) -> Viewed
-    ensures { viewed_of buffer.now result ≡ viewed_as full kind buffer.now message }
+fn view(buffer: &[u8], full: bool, kind: Loose, message: Part) -> Result<Element, Refusal>
+    ensures { each (item_of buffer.now) result ≡ viewed_as full kind buffer.now message }
 {
     match kind {
         Loose::Nodes => view_node(buffer, full, message),
@@ -125,15 +97,15 @@ pub fn next_loose(buffer: &[u8], m: Messages) -> LooseStep
         at: m.at,
         field: field_of(kind),
     };
-    let r = WireMessageIter::At(place).step(buffer);
-    match r {
-        MessageStep::Refused { refusal, next: _ } => LooseStep::Refused(refusal),
-        MessageStep::Ended { next: _ } => LooseStep::Ended,
-        MessageStep::Message { part, next: _ } => {
+    let step = WireMessageIter::At(place).step(buffer);
+    match step.said {
+        Err(refusal) => LooseStep::Refused(refusal),
+        Ok(None) => LooseStep::Ended,
+        Ok(Some(part)) => {
             let v = view(buffer, m.full, kind, part);
             match v {
-                Viewed::Refused(n) => LooseStep::Refused(n),
-                Viewed::Element(element) => LooseStep::Found {
+                Err(n) => LooseStep::Refused(n),
+                Ok(element) => LooseStep::Found {
                     message: part,
                     element,
                     at: part.start + part.len - of.start,

@@ -1,6 +1,6 @@
 -- Worked values: the numbers of each view's answer and of each kind of element, with all fields different. They are proved by computing, so
 -- a definition that is changed breaks a row, whatever the code does.
-use Rattle.std.specs.Prelude.{ℕ, ◌-◌, ◌^◌, true, false, ◌≡◌, refl, List, [], ◌∷◌, ◌++◌, replicate, pos, negsuc}
+use Rattle.std.specs.Prelude.{ℕ, ◌-◌, ◌^◌, true, false, ◌≡◌, refl, List, [], ◌∷◌, ◌++◌, replicate, pos, negsuc, Some, None}
 use Rattle.numbers.specs.Little.{bytes}
 use Rattle.numbers.specs.Signed.{residue}
 use Rattle.fields.specs.Part.{part_by, no_part}
@@ -21,23 +21,23 @@ minus n = 2 ^ 64 - n
 abbrev full_info : WireInfo
 full_info =
     record {
-      version = record { present = true; value = negsuc 1 };
-      timestamp = record { present = true; value = pos 3 };
-      changeset = record { present = true; value = negsuc 3 };
-      uid = record { present = true; value = pos 5 };
-      user = record { present = true; value = negsuc 5 };
-      visible = record { present = true; value = true };
+      version = Some (negsuc 1);
+      timestamp = Some (pos 3);
+      changeset = Some (negsuc 3);
+      uid = Some (pos 5);
+      user = Some (negsuc 5);
+      visible = Some true;
     }
 
 abbrev no_info : WireInfo
 no_info =
     record {
-      version = record { present = false; value = pos 0 };
-      timestamp = record { present = false; value = pos 0 };
-      changeset = record { present = false; value = pos 0 };
-      uid = record { present = false; value = pos 0 };
-      user = record { present = false; value = pos 0 };
-      visible = record { present = false; value = false };
+      version = None;
+      timestamp = None;
+      changeset = None;
+      uid = None;
+      user = None;
+      visible = None;
     }
 
 -- ---- elements of group 21, whose message is 23 bytes from 22 on
@@ -63,7 +63,7 @@ pub record Worked : Type 0 where
   pub dense-info-numbers : dense_info_words (record { version = part_by 1 2; timestamp = part_by 3 4; changeset = part_by 5 6; uid = part_by 7 8; user = part_by 9 10; visible = no_part }) ≡ 1 ∷ 1 ∷ 2 ∷ 1 ∷ 3 ∷ 4 ∷ 1 ∷ 5 ∷ 6 ∷ 1 ∷ 7 ∷ 8 ∷ 1 ∷ 9 ∷ 10 ∷ 0 ∷ 0 ∷ 0 ∷ []
   pub info-numbers : info_words full_info ≡ 1 ∷ minus 2 ∷ 1 ∷ 3 ∷ 1 ∷ minus 4 ∷ 1 ∷ 5 ∷ 1 ∷ minus 6 ∷ 1 ∷ 1 ∷ []
   pub info-absent : info_words no_info ≡ 0 ∷ 0 ∷ 0 ∷ 0 ∷ 0 ∷ 0 ∷ 0 ∷ 0 ∷ 0 ∷ 0 ∷ 0 ∷ 0 ∷ []
-  pub info-not-visible : info_words (record { version = no_info.version; timestamp = no_info.timestamp; changeset = no_info.changeset; uid = no_info.uid; user = no_info.user; visible = record { present = true; value = false } }) ≡ 0 ∷ 0 ∷ 0 ∷ 0 ∷ 0 ∷ 0 ∷ 0 ∷ 0 ∷ 0 ∷ 0 ∷ 1 ∷ 0 ∷ []
+  pub info-not-visible : info_words (record { version = no_info.version; timestamp = no_info.timestamp; changeset = no_info.changeset; uid = no_info.uid; user = no_info.user; visible = Some false }) ≡ 0 ∷ 0 ∷ 0 ∷ 0 ∷ 0 ∷ 0 ∷ 0 ∷ 0 ∷ 0 ∷ 0 ∷ 1 ∷ 0 ∷ []
   -- an element's kind, group and part come before the numbers of its kind
   pub dense-unread : dense_words info.Unread ≡ 0 ∷ 21 ∷ 22 ∷ 23 ∷ minus 1 ∷ 2 ∷ minus 3 ∷ 4 ∷ 5 ∷ 0 ∷ []
   pub dense-missing : dense_words info.Missing ≡ 0 ∷ 21 ∷ 22 ∷ 23 ∷ minus 1 ∷ 2 ∷ minus 3 ∷ 4 ∷ 5 ∷ 1 ∷ []

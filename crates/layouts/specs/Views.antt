@@ -1,14 +1,11 @@
 -- The numbers of each view's answer, in their order.
-use Rattle.std.specs.Prelude.{ℕ, List, [], ◌∷◌, ◌++◌}
+use Rattle.std.specs.Prelude.{ℕ, List, [], ◌∷◌, ◌++◌, Bool, false, ℤ, pos, Option, is_some, unwrap_or}
 use Rattle.fields.specs.declared.part.Part.{Part}
 use Rattle.views.specs.declared.node.WireNode.{WireNode}
 use Rattle.views.specs.declared.way.WireWay.{WireWay}
 use Rattle.views.specs.declared.relation.WireRelation.{WireRelation}
 use Rattle.views.specs.declared.dense_nodes.WireDenseNodes.{WireDenseNodes}
 use Rattle.views.specs.declared.dense_info.WireDenseInfo.{WireDenseInfo}
-use Rattle.views.specs.declared.info.Number32.{Number32}
-use Rattle.views.specs.declared.info.Number64.{Number64}
-use Rattle.views.specs.declared.info.Flag.{Flag}
 use Rattle.views.specs.declared.info.WireInfo.{WireInfo}
 use Rattle.answers.specs.Words.{flag, signed_word}
 use Rattle.answers.specs.Group.{part_words}
@@ -37,15 +34,14 @@ dense_info_words v = parts_words (v.version ∷ v.timestamp ∷ v.changeset ∷ 
 
 -- ---- a number that may be absent is two: whether it is present, and it, 0 where it is not
 
-abbrev pub number32_words : Number32 → List ℕ
-number32_words n = flag n.present ∷ signed_word n.value ∷ []
+abbrev pub number_words : Option ℤ → List ℕ
+number_words n = flag (is_some n) ∷ signed_word (unwrap_or n (pos 0)) ∷ []
 
-abbrev pub number64_words : Number64 → List ℕ
-number64_words n = flag n.present ∷ signed_word n.value ∷ []
+-- the same of a flag
 
-abbrev pub flag_words : Flag → List ℕ
-flag_words n = flag n.present ∷ flag n.value ∷ []
+abbrev pub flag_words : Option Bool → List ℕ
+flag_words n = flag (is_some n) ∷ flag (unwrap_or n false) ∷ []
 
 abbrev pub info_words : WireInfo → List ℕ
 info_words v =
-    number32_words v.version ++ (number64_words v.timestamp ++ (number64_words v.changeset ++ (number32_words v.uid ++ (number32_words v.user ++ flag_words v.visible))))
+    number_words v.version ++ (number_words v.timestamp ++ (number_words v.changeset ++ (number_words v.uid ++ (number_words v.user ++ flag_words v.visible))))

@@ -168,24 +168,18 @@ pub fn dense_info_numbers(v: WireDenseInfo) -> [u64; 18]
 pub fn info_numbers(v: WireInfo) -> [u64; 12]
     ensures { result ≡ info_words v }
 {
-    let version = v.version;
-    let timestamp = v.timestamp;
-    let changeset = v.changeset;
-    let uid = v.uid;
-    let user = v.user;
-    let visible = v.visible;
     [
-        version.present as u64,
-        bits_i32(version.value),
-        timestamp.present as u64,
-        bits_i64(timestamp.value),
-        changeset.present as u64,
-        bits_i64(changeset.value),
-        uid.present as u64,
-        bits_i32(uid.value),
-        user.present as u64,
-        bits_i32(user.value),
-        visible.present as u64,
-        visible.value as u64,
+        v.version.is_some() as u64,
+        bits_i32(v.version.unwrap_or(0)),
+        v.timestamp.is_some() as u64,
+        bits_i64(v.timestamp.unwrap_or(0)),
+        v.changeset.is_some() as u64,
+        bits_i64(v.changeset.unwrap_or(0)),
+        v.uid.is_some() as u64,
+        bits_i32(v.uid.unwrap_or(0)),
+        v.user.is_some() as u64,
+        bits_i32(v.user.unwrap_or(0)),
+        v.visible.is_some() as u64,
+        v.visible.unwrap_or(false) as u64,
     ]
 }

@@ -8,19 +8,6 @@ use numbers::little::read_u32;
 use protobuf::refusal::Refusal;
 use wire::record::WireBlock;
 
-#[derive(Clone, Copy)]
-pub enum Got {
-    Text(Part),
-    None,
-    Refused(Refusal),
-}
-
-#[derive(Clone, Copy)]
-pub enum GroupRange {
-    Range(Part),
-    Refused(Refusal),
-}
-
 // The part that a table's entry names.
 fn entry_at(s: &[u8], place: usize) -> Part
     requires { place + 8 ≤ length s.now }
@@ -61,48 +48,47 @@ pub fn is_inside(buffer: &[u8], block: WireBlock) -> bool
 // The string of a number, by the record's string count and table place alone: none where the number is not below the count or its 8 table
 // bytes pass the buffer, and 14 where the range that they name does. On the buffer and the record that a scan left it is the block's own
 // string of that number, none at the count and behind it.
-pub fn get(buffer: &[u8], block: WireBlock, index: usize) -> Got
+pub fn get(buffer: &[u8], block: WireBlock, index: usize) -> Result<Option<Part>, Refusal>
     ensures answer { result ≡ get_at buffer.now block index }
     ensures scanned { (b : List ℕ) (n : ℕ) → Scanned-as buffer.now block b n → result ≡ string_of (take n b) index }
 {
     let n = buffer.len();
     let table = block.stringtable;
     if block.strings <= index {
-        return Got::None;
+        return Ok(None);
     }
     if n < 8 {
-        return Got::None;
+        return Ok(None);
     }
     if !table_fits(n - 8, table, index) {
-        return Got::None;
+        return Ok(None);
     }
     let part = entry_at(buffer, table + 8 * index);
     if part_fits(n, part.start, part.len) {
-        Got::Text(part)
+        Ok(Some(part))
     } else {
-        Got::Refused(Refusal::Outside)
+        Err(Refusal::Outside)
     }
 }
 
 // The group of a number: 14 where the block or a table passes the buffer, the number is not below the count, or the range that its entry
 // names passes the buffer. On the buffer and the record that a scan left it is the block's own group of that number, 14 at the count and
 // behind it.
-pub fn group(buffer: &[u8], block: WireBlock, index: usize) -> GroupRange
+pub fn group(buffer: &[u8], block: WireBlock, index: usize) -> Result<Part, Refusal>
     ensures answer { result ≡ group_at buffer.now block index }
     ensures scanned { (b : List ℕ) (n : ℕ) → Scanned-as buffer.now block b n → result ≡ group_of (take n b) index }
 {
     let n = buffer.len();
     let table = block.grouptable;
     if !is_inside(buffer, block) {
-        return GroupRange::Refused(Refusal::Outside);
+        return Err(Refusal::Outside);
     }
     if block.groups <= index {
-        return GroupRange::Refused(Refusal::Outside);
+        return Err(Refusal::Outside);
     }
     let part = entry_at(buffer, table + 8 * index);
-    if part_fits(n, part.start, part.len) {
-        GroupRange::Range(part)
-    } else {
-        GroupRange::Refused(Refusal::Outside)
+    if !part_fits(n, part.start, part.len) {
+        return Err(Refusal::Outside);
     }
+    Ok(part)
 }

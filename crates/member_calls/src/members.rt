@@ -7,7 +7,7 @@ ghost use Rattle.calls.specs.Filling.{StopsAt, ItemPut, Run, Filled, Called};
 ghost use Rattle.member_calls.specs.Members.{member_words, members_at, member_item, members_in, members_call};
 
 use answers::codes::{ENDED, OUTSIDE};
-use answers::record::{RecordIn, record_in};
+use answers::record::record_in;
 use answers::words::{bits_i32, put_at, put_numbers};
 use calls::room::{Counted, one_room, put_count, room_for};
 use calls::slot::column_in;
@@ -276,12 +276,12 @@ fn members_over(
 {
     let r = record_in(rec);
     match r {
-        RecordIn::Outside => MembersFilled {
+        Err(_) => MembersFilled {
             code: OUTSIDE,
             count: 0,
             next: RelMemberIter::Ended,
         },
-        RecordIn::Record(block) => fill_members(buffer, block, start, out, most),
+        Ok(block) => fill_members(buffer, block, start, out, most),
     }
 }
 

@@ -1,36 +1,34 @@
--- What each enum that the code answers with says, in the definitions' terms: document 01's values for each case, and the refusal, whose
--- number `Refusal` gives.
-use Rattle.std.specs.Prelude.{ℕ, ◌+◌, ◌/◌, ◌%◌, ◌^◌, ◌<◌, ◌≡◌, List, eqb}
+-- What each thing that the code answers with says, in the definitions' terms.
+use Rattle.std.specs.Prelude.{ℕ, ◌+◌, ◌/◌, ◌%◌, ◌^◌, ◌<◌, ◌≡◌, List, eqb, Option, Some, None, Result, Ok, Err}
 use Rattle.numbers.specs.Choose.{choose}
-use Rattle.message.specs.declared.payload.Payload.{Payload}
-use Rattle.message.specs.declared.payload.Payload.TheVariants as payload
-use Rattle.message.specs.declared.payload.Skip.{Skip}
-use Rattle.message.specs.declared.payload.Skip.TheVariants as skip
+use Rattle.protobuf.specs.declared.refusal.Refusal.{Refusal}
 use Rattle.message.specs.declared.field.Field.{Field}
-use Rattle.message.specs.declared.field.Field.TheVariants as field
-use Rattle.protobuf.specs.Read.{Read, taken, refused}
+use Rattle.message.specs.declared.field.NoField.{NoField}
+use Rattle.message.specs.declared.field.NoField.TheVariants.{Cut, Spoilt}
+use Rattle.protobuf.specs.Read.{Read}
 use Rattle.protobuf.specs.Stream.{Item, last, item}
 use Rattle.protobuf.specs.Tag.{split}
-use Rattle.message.specs.Payload as P
+use Rattle.message.specs.Payload.{payload_of}
 use Rattle.message.specs.Message as M
 
-abbrev pub payload_of : Payload → Read P.Payload
-payload_of (payload.Taken value start len next) = taken (P.payload_of value start len) next
-payload_of (payload.Refused r) = refused r
+-- the place behind something that nobody looks into
+abbrev pub past : Result ℕ Refusal → Read Unit
+past (Ok next) = Ok (tt, next)
+past (Err r) = Err r
 
-abbrev pub skip_of : Skip → Read Unit
-skip_of (skip.Past next) = taken tt next
-skip_of (skip.Refused r) = refused r
+abbrev pub refusal_in : NoField → Refusal
+refusal_in (Cut r) = r
+refusal_in (Spoilt tag r) = r
 
 -- a field by its tag's value
 abbrev pub field_by : ℕ → ℕ → ℕ → ℕ → M.Field
-field_by tag value start len = record { tag = split tag; payload = P.payload_of value start len }
+field_by tag value start len = record { tag = split tag; payload = payload_of value start len }
 
-abbrev pub field_of : Field → Item M.Field M.MessageEnd
-field_of field.Complete = last M.complete
-field_of (field.Cut r) = last (M.cut r)
-field_of (field.Spoilt tag r) = last (M.spoilt (split tag) r)
-field_of (field.Read tag value start len next) = item (field_by tag value start len) next
+abbrev pub field_of : Result (Option (Field × ℕ)) NoField → Item M.Field M.MessageEnd
+field_of (Ok None) = last M.complete
+field_of (Ok (Some (f, next))) = item (field_by f.tag f.value f.start f.len) next
+field_of (Err (Cut r)) = last (M.cut r)
+field_of (Err (Spoilt tag r)) = last (M.spoilt (split tag) r)
 
 -- A field by a short way: a number that is 0 where the way does not serve, which is the program's choice. Else it is 128 times the word of its
 -- number or its length (protobuf/specs/Short), plus its tag, which has one byte.

@@ -1,68 +1,72 @@
 // Messages: field after field, the step of every view.
-ghost use Rattle.std.specs.Prelude.{◌≡◌, ◌+◌, ◌/◌, ◌%◌, ◌^◌, ◌<◌};
+ghost use Rattle.std.specs.Prelude.{◌≡◌, ◌+◌, ◌/◌, ◌%◌, ◌^◌, ◌<◌, Some, Ok};
 ghost use Rattle.protobuf.specs.Tag.{split};
 ghost use Rattle.message.specs.Message.{with_payload, field_at};
-ghost use Rattle.message.specs.Answers.{payload_of, field_of, field_in, ShortField};
+ghost use Rattle.message.specs.Answers.{refusal_in, field_of, field_in, ShortField};
 
 use crate::payload::{Payload, read_payload};
 use protobuf::column::wide_value;
 use protobuf::refusal::Refusal;
-use protobuf::tag::{LEN, Tag, VARINT, read_tag};
+use protobuf::tag::{LEN, VARINT, read_tag};
 
-// What stands where a field may be.
-#[derive(Clone, Copy)]
-pub enum Field {
-    // The message is complete.
-    Complete,
-    // A refusal before the tag is complete.
-    Cut(Refusal),
-    // A tag whose payload is refused: the field number times 8 plus the wire type.
-    Spoilt {
-        tag: u32,
-        refusal: Refusal,
-    },
-    // The tag, its payload's number and raw bytes, and the place behind them.
-    Read {
-        tag: u32,
-        value: u64,
-        start: usize,
-        len: usize,
-        next: usize,
-    },
+// A field: its tag, the field number times 8 plus the wire type; its payload's number; and its raw bytes.
+#[derive(Clone, Copy, Debug, PartialEq, Eq)]
+pub struct Field {
+    pub tag: u32,
+    pub value: u64,
+    pub start: usize,
+    pub len: usize,
 }
 
-// A field by its tag's value and its payload.
-fn field_by(tag: u32, p: Payload) -> Field
-    ensures { field_of result ≡ with_payload (split tag) (payload_of p) }
+// Why no field can be read: a refusal before the tag is complete, or a tag whose payload is refused.
+#[derive(Clone, Copy, Debug, PartialEq, Eq)]
+pub enum NoField {
+    Cut(Refusal),
+    Spoilt { tag: u32, refusal: Refusal },
+}
+
+impl From<NoField> for Refusal {
+    ghost from_gives = { λ e r. r ≡ refusal_in e };
+
+    fn from(e: NoField) -> Refusal {
+        match e {
+            NoField::Cut(refusal) => refusal,
+            NoField::Spoilt { tag: _, refusal } => refusal,
+        }
+    }
+}
+
+// A field by its tag's value and what its payload gave.
+fn field_by(
+    tag: u32,
+    payload: Result<(Payload, usize), Refusal>,
+) -> Result<Option<(Field, usize)>, NoField>
+    ensures { field_of result ≡ with_payload (split tag) payload }
 {
-    match p {
-        Payload::Refused(refusal) => Field::Spoilt { tag, refusal },
-        Payload::Taken {
-            value,
-            start,
-            len,
-            next,
-        } => Field::Read {
-            tag,
-            value,
-            start,
-            len,
-            next,
-        },
+    match payload {
+        Err(refusal) => Err(NoField::Spoilt { tag, refusal }),
+        Ok((raw, next)) => {
+            let field = Field {
+                tag,
+                value: raw.value,
+                start: raw.start,
+                len: raw.len,
+            };
+            Ok(Some((field, next)))
+        }
     }
 }
 
 // The field at `at`, whatever its tag is.
-fn any_field(s: &[u8], at: usize) -> Field
+fn any_field(s: &[u8], at: usize) -> Result<Option<(Field, usize)>, NoField>
     ensures { field_of result ≡ field_at s.now at }
 {
-    let t = read_tag(s, at);
-    match t {
-        Tag::Done => Field::Complete,
-        Tag::Refused(n) => Field::Cut(n),
-        Tag::Field { field, wire, next } => {
-            let p = read_payload(s, next, field, wire);
-            field_by(field * 8 + wire, p)
+    match read_tag(s, at) {
+        Err(refusal) => Err(NoField::Cut(refusal)),
+        Ok(None) => Ok(None),
+        Ok(Some((tag, next))) => {
+            let payload = read_payload(s, next, tag.field, tag.wire);
+            field_by(tag.field * 8 + tag.wire, payload)
         }
     }
 }
@@ -106,38 +110,39 @@ fn short_field(s: &[u8], at: usize) -> u64
 }
 
 // The field that such a word tells of.
-fn field_in(word: u64, at: usize) -> Field
+fn field_in(word: u64, at: usize) -> (Field, usize)
     requires { at + 1 + word / 128 % 16 + word / 2048 < 2 ^ 64 }
-    ensures { field_of result ≡ field_in word at }
+    ensures { field_of (Ok (Some result)) ≡ field_in word at }
 {
     let tag = (word % 128) as u32;
     let value = word / 2048;
     let behind = at + 1 + (word / 128 % 16) as usize;
     if word % 8 == 2 {
-        return Field::Read {
+        let field = Field {
             tag,
             value,
             start: behind,
             len: value as usize,
-            next: behind + value as usize,
         };
+        return (field, behind + value as usize);
     }
-    Field::Read {
+    let field = Field {
         tag,
         value,
         start: at + 1,
         len: (word / 128 % 16) as usize,
-        next: behind,
-    }
+    };
+    (field, behind)
 }
 
-// The field at `at`, or the end of the message: 14 where `at` is behind the end, then the tag's refusals, then its payload's.
-pub fn next_field(s: &[u8], at: usize) -> Field
+// The field at `at` with the place behind it, or none at the end of the message: 14 where `at` is behind the end, then the tag's refusals,
+// then its payload's.
+pub fn next_field(s: &[u8], at: usize) -> Result<Option<(Field, usize)>, NoField>
     ensures { field_of result ≡ field_at s.now at }
 {
     let word = short_field(s, at);
     if word == 0 {
         return any_field(s, at);
     }
-    field_in(word, at)
+    Ok(Some(field_in(word, at)))
 }

@@ -1,6 +1,6 @@
 -- Worked values: what the definitions here say of concrete bytes. They are proved by computing, so a definition that is changed breaks a row,
 -- whatever the code does. Bytes are hexadecimal.
-use Rattle.std.specs.Prelude.{ℕ, ◌<◌, ◌≡◌, refl, List, [], ◌∷◌, ◌++◌, true, false, length, take, replicate}
+use Rattle.std.specs.Prelude.{ℕ, ◌<◌, ◌≡◌, refl, List, [], ◌∷◌, ◌++◌, true, false, length, take, replicate, Ok, Err, Some, None}
 use Rattle.std.proofs.Common.{arith, ap}
 use Rattle.protobuf.specs.declared.refusal.Refusal.TheVariants.{SecondDense, Outside}
 use Rattle.protobuf.specs.Read.{and_then}
@@ -12,11 +12,10 @@ use Rattle.message.specs.Payload.{raw_varint, fixed, counted, length_delimited, 
 use Rattle.protobuf.specs.Stream.{unrolled, mapped}
 use Rattle.message.specs.Message.{field_at, message_from}
 use Rattle.protobuf.specs.Column.{value_at, column_from, sums_from}
-use Rattle.fields.specs.Outcome.{kept, refused, onward, each}
+use Rattle.fields.specs.Outcome.{onward, each}
 use Rattle.fields.specs.Part.{part_by}
 use Rattle.fields.specs.Parts.{parts_of, messages_of}
 use Rattle.fields.specs.View.{column_part, info_part, put, store, view_from, view, view_in}
-use Rattle.lookup.specs.declared.by_number.Got.TheVariants as got
 use Rattle.wire.specs.Block.{last_of, chosen_table}
 use Rattle.wire.specs.Tables.{entries}
 use Rattle.wire.specs.Scan.{tables_stage, strings_stage, fields_stage, scanned}
@@ -93,66 +92,66 @@ pub record Worked : Type 0 where
   pub scan-no-tables : scan_after (0x12 ∷ 0x00 ∷ blank 7) 2 (blank 72) ≡ 0x12 ∷ 0x00 ∷ blank 7
   pub scan-no-room : scan_after (0x12 ∷ 0x00 ∷ blank 9) 2 (blank 71) ≡ 0x12 ∷ 0x00 ∷ blank 9
   -- strings and groups by number, through the record in a slice
-  pub get_text : get_in buffer rec 0 ≡ got.Text (part_by 1 2)
-  pub get_outside : get_in buffer rec 1 ≡ got.Refused Outside
-  pub get_none : get_in buffer rec 2 ≡ got.None
-  pub get_no-record : get_in buffer (take 71 rec) 0 ≡ got.Refused Outside
-  pub get_no-record-first : get_in buffer (take 71 rec) 2 ≡ got.Refused Outside
-  pub got_text : got_code (got.Text (part_by 1 2)) ≡ 0
-  pub got_none : got_code got.None ≡ 100
-  pub got_outside : got_code (got.Refused Outside) ≡ 14
-  pub after_text : got_after (blank 17) (got.Text (part_by 1 2)) ≡ words (1 ∷ 2 ∷ []) ++ blank 1
-  pub after_text-short : got_after (blank 15) (got.Text (part_by 1 2)) ≡ blank 15
-  pub after_none : got_after (blank 17) got.None ≡ blank 17
-  pub after-outside : got_after (blank 17) (got.Refused Outside) ≡ blank 17
-  pub group-range : group_in buffer rec 0 ≡ kept (part_by 0 3)
-  pub group-outside : group_in buffer rec 1 ≡ refused Outside
-  pub group-at-count : group_in buffer rec 2 ≡ refused Outside
-  pub group-no-record : group_in buffer (take 71 rec) 0 ≡ refused Outside
+  pub get_text : get_in buffer rec 0 ≡ Ok (Some (part_by 1 2))
+  pub get_outside : get_in buffer rec 1 ≡ Err Outside
+  pub get_none : get_in buffer rec 2 ≡ Ok None
+  pub get_no-record : get_in buffer (take 71 rec) 0 ≡ Err Outside
+  pub get_no-record-first : get_in buffer (take 71 rec) 2 ≡ Err Outside
+  pub got_text : got_code (Ok (Some (part_by 1 2))) ≡ 0
+  pub got_none : got_code (Ok None) ≡ 100
+  pub got_outside : got_code (Err Outside) ≡ 14
+  pub after_text : got_after (blank 17) (Ok (Some (part_by 1 2))) ≡ words (1 ∷ 2 ∷ []) ++ blank 1
+  pub after_text-short : got_after (blank 15) (Ok (Some (part_by 1 2))) ≡ blank 15
+  pub after_none : got_after (blank 17) (Ok None) ≡ blank 17
+  pub after-outside : got_after (blank 17) (Err Outside) ≡ blank 17
+  pub group-range : group_in buffer rec 0 ≡ Ok (part_by 0 3)
+  pub group-outside : group_in buffer rec 1 ≡ Err Outside
+  pub group-at-count : group_in buffer rec 2 ≡ Err Outside
+  pub group-no-record : group_in buffer (take 71 rec) 0 ≡ Err Outside
   -- the kind of the group in a range, which may end where the buffer does
-  pub kind-of-range : kind_in buffer 2 2 ≡ kept DenseNodes
-  pub kind-at-start : kind_in buffer 0 1 ≡ kept Nodes
-  pub kind-at-end : kind_in (0x0A ∷ []) 1 0 ≡ kept Empty
-  pub kind-outside : kind_in (0x0A ∷ []) 1 1 ≡ refused Outside
+  pub kind-of-range : kind_in buffer 2 2 ≡ Ok DenseNodes
+  pub kind-at-start : kind_in buffer 0 1 ≡ Ok Nodes
+  pub kind-at-end : kind_in (0x0A ∷ []) 1 0 ≡ Ok Empty
+  pub kind-outside : kind_in (0x0A ∷ []) 1 1 ≡ Err Outside
   -- the check, through the record in a slice
   pub check-accepts : check_code [] (record_bytes 0 0 0 0 0) ≡ 0
   pub check-refuses : check_code (0x12 ∷ 0x04 ∷ 0x12 ∷ 0x00 ∷ 0x12 ∷ 0x00 ∷ entry 2 4) (record_bytes 6 0 6 1 6) ≡ 11
   pub check-outside : check_code [] (record_bytes 1 0 0 0 0) ≡ 14
   pub check-no-record : check_code [] (take 71 (record_bytes 0 0 0 0 0)) ≡ 14
   -- the text of a role, whose number is an int32 as its two's complement at 64 bits
-  pub role_text_lem : role_in buffer rec 0 ≡ got.Text (part_by 1 2)
-  pub role-outside : role_in buffer rec 1 ≡ got.Refused Outside
-  pub role-none : role_in buffer rec 2 ≡ got.None
-  pub role_greatest : role_in buffer rec 0x7FFFFFFF ≡ got.None
-  pub role_above : role_in buffer rec 0x80000000 ≡ got.Refused Outside
-  pub role-wide : role_in buffer rec 0x100000000 ≡ got.Refused Outside
-  pub role-minus-one : role_in buffer rec 0xFFFFFFFFFFFFFFFF ≡ got.None
-  pub role_least : role_in buffer rec 0xFFFFFFFF80000000 ≡ got.None
-  pub role-below : role_in buffer rec 0xFFFFFFFF7FFFFFFF ≡ got.Refused Outside
-  pub role-no-record : role_in buffer (take 71 rec) 0 ≡ got.Refused Outside
-  pub role-no-record-first : role_in buffer (take 71 rec) 0xFFFFFFFFFFFFFFFF ≡ got.Refused Outside
-  pub own-role_text : own_role named 0 ≡ got.Text (part_by 4 1)
-  pub own-role-none : own_role named 1 ≡ got.None
-  pub own-role-minus-one : own_role named 0xFFFFFFFFFFFFFFFF ≡ got.None
-  pub own-role-wide : own_role named 0x100000000 ≡ got.Refused Outside
+  pub role_text_lem : role_in buffer rec 0 ≡ Ok (Some (part_by 1 2))
+  pub role-outside : role_in buffer rec 1 ≡ Err Outside
+  pub role-none : role_in buffer rec 2 ≡ Ok None
+  pub role_greatest : role_in buffer rec 0x7FFFFFFF ≡ Ok None
+  pub role_above : role_in buffer rec 0x80000000 ≡ Err Outside
+  pub role-wide : role_in buffer rec 0x100000000 ≡ Err Outside
+  pub role-minus-one : role_in buffer rec 0xFFFFFFFFFFFFFFFF ≡ Ok None
+  pub role_least : role_in buffer rec 0xFFFFFFFF80000000 ≡ Ok None
+  pub role-below : role_in buffer rec 0xFFFFFFFF7FFFFFFF ≡ Err Outside
+  pub role-no-record : role_in buffer (take 71 rec) 0 ≡ Err Outside
+  pub role-no-record-first : role_in buffer (take 71 rec) 0xFFFFFFFFFFFFFFFF ≡ Err Outside
+  pub own-role_text : own_role named 0 ≡ Ok (Some (part_by 4 1))
+  pub own-role-none : own_role named 1 ≡ Ok None
+  pub own-role-minus-one : own_role named 0xFFFFFFFFFFFFFFFF ≡ Ok None
+  pub own-role-wide : own_role named 0x100000000 ≡ Err Outside
   -- positions, by the record's granularity and its two offsets
-  pub nano_scaled : nano_in rec 5 7 ≡ kept (500 ∷ 700 ∷ [])
-  pub nano_offsets : nano_in shifted 1 1 ≡ kept (13 ∷ 6 ∷ [])
-  pub nano_negative : nano_in shifted 0xFFFFFFFFFFFFFFFF 0 ≡ kept (0xFFFFFFFFFFFFFFF9 ∷ 0xFFFFFFFFFFFFFFFC ∷ [])
-  pub nano_wraps : nano_in rec 0x7FFFFFFFFFFFFFFF 0x4000000000000001 ≡ kept (0xFFFFFFFFFFFFFF9C ∷ 100 ∷ [])
-  pub nano_no-record : nano_in (take 71 rec) 5 7 ≡ refused Outside
+  pub nano_scaled : nano_in rec 5 7 ≡ Ok (500 ∷ 700 ∷ [])
+  pub nano_offsets : nano_in shifted 1 1 ≡ Ok (13 ∷ 6 ∷ [])
+  pub nano_negative : nano_in shifted 0xFFFFFFFFFFFFFFFF 0 ≡ Ok (0xFFFFFFFFFFFFFFF9 ∷ 0xFFFFFFFFFFFFFFFC ∷ [])
+  pub nano_wraps : nano_in rec 0x7FFFFFFFFFFFFFFF 0x4000000000000001 ≡ Ok (0xFFFFFFFFFFFFFF9C ∷ 100 ∷ [])
+  pub nano_no-record : nano_in (take 71 rec) 5 7 ≡ Err Outside
   -- whether two blocks list the same, through the records in two slices: what is no record is 14, before any number of the check
-  pub same_way : same_in (way_of 7) one_group (way_of 7) one_group ≡ kept true
-  pub another_way : same_in (way_of 7) one_group (way_of 8) one_group ≡ kept false
-  pub another_granularity : same_in [] empty [] shifted ≡ kept false
-  pub first-refused : same_in two_dense one_group [] empty ≡ refused SecondDense
-  pub second-refused : same_in [] empty two_dense one_group ≡ refused SecondDense
-  pub first-no-record : same_in [] (take 71 empty) two_dense one_group ≡ refused Outside
-  pub second-no-record : same_in two_dense one_group [] (take 71 empty) ≡ refused Outside
-  pub first-outside : same_in [] one_group two_dense one_group ≡ refused Outside
-  pub second-outside : same_in two_dense one_group [] one_group ≡ refused Outside
-  pub same-is-one : answer_after same_words (blank 9) (kept true) ≡ words (1 ∷ []) ++ blank 1
-  pub other-is-zero : answer_after same_words (blank 9) (kept false) ≡ words (0 ∷ []) ++ blank 1
+  pub same_way : same_in (way_of 7) one_group (way_of 7) one_group ≡ Ok true
+  pub another_way : same_in (way_of 7) one_group (way_of 8) one_group ≡ Ok false
+  pub another_granularity : same_in [] empty [] shifted ≡ Ok false
+  pub first-refused : same_in two_dense one_group [] empty ≡ Err SecondDense
+  pub second-refused : same_in [] empty two_dense one_group ≡ Err SecondDense
+  pub first-no-record : same_in [] (take 71 empty) two_dense one_group ≡ Err Outside
+  pub second-no-record : same_in two_dense one_group [] (take 71 empty) ≡ Err Outside
+  pub first-outside : same_in [] one_group two_dense one_group ≡ Err Outside
+  pub second-outside : same_in two_dense one_group [] one_group ≡ Err Outside
+  pub same-is-one : answer_after same_words (blank 9) (Ok true) ≡ words (1 ∷ []) ++ blank 1
+  pub other-is-zero : answer_after same_words (blank 9) (Ok false) ≡ words (0 ∷ []) ++ blank 1
 
 pub worked : Worked
 unfolding little bytes number_at column_part info_part put store view_from view entries tables_stage strings_stage fields_stage scanned signed twos residue wrap and_then digits varint legal tag tag_at raw_varint fixed counted length_delimited value_by field_in fields_of group_by payload unrolled field_at message_from onward each parts_of messages_of last_of chosen_table get_at group_at string_parts block_type dense_from all check_group parts_at checked_in words record_in kind_in mapped value_at column_from sums_from view_in dense_in column_in count_of agreed element_by ahead start_of zip found_tags raw_tags_from tags_by viewed_all ◌then◌ groups_from tested_from same_stream same_walks same_listing

@@ -2,8 +2,7 @@
 -- slice that a scan left of an accepted block, a chain from the walk's start hands out the block's listing, and a chain from the start of an
 -- element's tags, references or members hands out the listing's; never a number. And of any two such blocks the listings are equal exactly
 -- when the contents are.
-use Rattle.std.specs.Prelude.{ℕ, ◌≤◌, ◌≡◌, List, Bool, length, take, ℤ}
-use Rattle.fields.specs.Outcome.{kept}
+use Rattle.std.specs.Prelude.{ℕ, ◌≤◌, ◌≡◌, List, Bool, length, take, ℤ, Ok}
 use Rattle.wire.specs.declared.record.WireBlock.{WireBlock}
 use Rattle.block.specs.Check.{passed, checked}
 use Rattle.block.specs.Listing.{Element, listing}
@@ -58,7 +57,7 @@ pub record SubChains (s rec : List ℕ) (r : WireBlock) (p : Put) (e : Element) 
 
 pub record ListsIn (s rec b : List ℕ) (n : ℕ) : Type 0 where
   pub block : WireBlock
-  pub read : record_in rec ≡ kept block
+  pub read : record_in rec ≡ Ok block
   pub granularity : block.granularity ≡ (listing (take n b)).granularity
   pub latoffset : block.latoffset ≡ (listing (take n b)).latoffset
   pub lonoffset : block.lonoffset ≡ (listing (take n b)).lonoffset

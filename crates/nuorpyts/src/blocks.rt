@@ -7,15 +7,16 @@ ghost use Rattle.lookup.specs.Lookup.{string_of, group_of};
 ghost use Rattle.answers.specs.Codes.{answer_code, answer_after};
 ghost use Rattle.answers.specs.Record.{record_words};
 ghost use Rattle.answers.specs.Group.{range_words};
-ghost use Rattle.nuorpyts.specs.Block.{scan_after, Scanned-in, get_in, got_code, got_after, range_of, group_in};
+ghost use Rattle.nuorpyts.specs.Block.{scan_after, Scanned-in, get_in, got_code, got_after, group_in};
 
 use answers::codes::{NONE, OUTSIDE};
 use answers::group::range_numbers;
-use answers::record::{RecordIn, record_in, record_numbers};
+use answers::record::{record_in, record_numbers};
 use answers::words::put_numbers;
-use lookup::by_number::{Got, GroupRange, get, group};
-use protobuf::refusal::number;
-use wire::scan::{BlockScan, scan};
+use fields::part::Part;
+use lookup::by_number::{get, group};
+use protobuf::refusal::{Refusal, number};
+use wire::scan::scan;
 
 // The block in the buffer's first `block` bytes is scanned: the record goes to `out`, and the tables go right behind the block. 14 first
 // where `out` is shorter than a record; then the scan's refusals, never 13 where the buffer has five times the block's bytes. A refusal writes
@@ -34,12 +35,35 @@ pub extern "C" fn nuorpyts_scan(buffer: &mut [u8], block: usize, out: &mut [u8])
     }
     let s = scan(buffer, block);
     match s {
-        BlockScan::Refused(n) => number(n),
-        BlockScan::Scanned(r) => {
+        Err(n) => number(n),
+        Ok(r) => {
             put_numbers(out, &record_numbers(r));
             0
         }
     }
+}
+
+// A range that was looked up, or none, into an answer's slice; and its code.
+pub(crate) fn give_range(got: Result<Option<Part>, Refusal>, out: &mut [u8]) -> u32
+    ensures code { result ≡ got_code got }
+    ensures after { out.new ≡ got_after out.old got }
+{
+    match got {
+        Err(n) => number(n),
+        Ok(None) => NONE,
+        Ok(Some(part)) => {
+            put_numbers(out, &range_numbers(part));
+            0
+        }
+    }
+}
+
+// The string of a number, by the record in a slice.
+fn get_in(buffer: &[u8], rec: &[u8], index: usize) -> Result<Option<Part>, Refusal>
+    ensures { result ≡ get_in buffer.now rec.now index }
+{
+    let block = record_in(rec)?;
+    get(buffer, block, index)
 }
 
 // The range of the string of a number: start and length go to `out`. 14 first where `out` is shorter than them or `rec` is no record; then
@@ -54,21 +78,16 @@ pub extern "C" fn nuorpyts_get(buffer: &[u8], rec: &[u8], index: usize, out: &mu
     if out.len() < 16 {
         return OUTSIDE;
     }
-    let r = record_in(rec);
-    match r {
-        RecordIn::Outside => OUTSIDE,
-        RecordIn::Record(block) => {
-            let got = get(buffer, block, index);
-            match got {
-                Got::Refused(n) => number(n),
-                Got::None => NONE,
-                Got::Text(part) => {
-                    put_numbers(out, &range_numbers(part));
-                    0
-                }
-            }
-        }
-    }
+    let got = get_in(buffer, rec, index);
+    give_range(got, out)
+}
+
+// The group of a number, by the record in a slice.
+fn group_in(buffer: &[u8], rec: &[u8], index: usize) -> Result<Part, Refusal>
+    ensures { result ≡ group_in buffer.now rec.now index }
+{
+    let block = record_in(rec)?;
+    group(buffer, block, index)
 }
 
 // The range of the group of a number: start and length go to `out`. 14 where `out` is shorter than them, `rec` is no record or is not inside
@@ -78,23 +97,17 @@ pub extern "C" fn nuorpyts_get(buffer: &[u8], rec: &[u8], index: usize, out: &mu
 pub extern "C" fn nuorpyts_group(buffer: &[u8], rec: &[u8], index: usize, out: &mut [u8]) -> u32
     ensures code { result ≡ answer_code 2 out.old (group_in buffer.now rec.now index) }
     ensures after { out.new ≡ answer_after range_words out.old (group_in buffer.now rec.now index) }
-    ensures scanned { (b : List ℕ) (n : ℕ) → Scanned-in buffer.now rec.now b n → (result ≡ answer_code 2 out.old (range_of (group_of (take n b) index))) × (out.new ≡ answer_after range_words out.old (range_of (group_of (take n b) index))) }
+    ensures scanned { (b : List ℕ) (n : ℕ) → Scanned-in buffer.now rec.now b n → (result ≡ answer_code 2 out.old (group_of (take n b) index)) × (out.new ≡ answer_after range_words out.old (group_of (take n b) index)) }
 {
     if out.len() < 16 {
         return OUTSIDE;
     }
-    let r = record_in(rec);
-    match r {
-        RecordIn::Outside => OUTSIDE,
-        RecordIn::Record(block) => {
-            let found = group(buffer, block, index);
-            match found {
-                GroupRange::Refused(n) => number(n),
-                GroupRange::Range(part) => {
-                    put_numbers(out, &range_numbers(part));
-                    0
-                }
-            }
+    let found = group_in(buffer, rec, index);
+    match found {
+        Err(n) => number(n),
+        Ok(part) => {
+            put_numbers(out, &range_numbers(part));
+            0
         }
     }
 }

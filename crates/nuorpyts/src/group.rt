@@ -15,7 +15,7 @@ use answers::step::message;
 use answers::words::put_numbers;
 use fields::part::part_fits;
 use groups::classify::classify_group;
-use groups::group::{DenseFound, dense};
+use groups::group::dense;
 use protobuf::refusal::number;
 
 // The kind of the group in a range of the buffer: its number goes to `out`. 14 where `out` is shorter than it or the range passes the
@@ -49,8 +49,8 @@ pub extern "C" fn nuorpyts_dense(buffer: &[u8], start: usize, len: usize, out: &
     }
     let r = dense(buffer, start, len);
     match r {
-        DenseFound::Refused(n) => number(n),
-        DenseFound::Found(p) => {
+        Err(n) => number(n),
+        Ok(p) => {
             put_numbers(out, &part_numbers(p));
             0
         }

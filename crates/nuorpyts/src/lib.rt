@@ -1,6 +1,6 @@
 // The functions that C calls. Numbers pass as themselves and byte slices as a pointer and a length; records, answers and states stand in
 // slices that the caller lends, as the crate `answers` lays them out (include/nuorpyts.h).
-#![tactic(auto)]
+#![tactic(auto, unfolding(fields::specs::Outcome::onward))]
 
 pub mod blocks;
 pub mod check;

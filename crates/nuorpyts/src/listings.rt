@@ -6,11 +6,19 @@ ghost use Rattle.nuorpyts.specs.Chains.{Accepted-in};
 ghost use Rattle.nuorpyts.specs.Same.{same_in, same_words, SameTold};
 
 use answers::codes::OUTSIDE;
-use answers::record::{RecordIn, record_in};
+use answers::record::record_in;
 use answers::words::put_numbers;
-use protobuf::refusal::number;
-use same::compared::Compared;
+use protobuf::refusal::{Refusal, number};
 use same::listing::same_listing;
+
+// Whether two scanned blocks list the same, by the records in two slices.
+fn same_in(first: &[u8], a: &[u8], second: &[u8], b: &[u8]) -> Result<bool, Refusal>
+    ensures { result ≡ same_in first.now a.now second.now b.now }
+{
+    let x = record_in(a)?;
+    let y = record_in(b)?;
+    same_listing(first, x, second, y)
+}
 
 // Whether two scanned blocks list the same: 1 goes to `out` where they do, 0 where they do not. 14 first where `out` is shorter than the
 // number, then where `a` is no record, then where `b` is none; then what `same_listing` refuses. A refusal writes nothing. On the buffers and
@@ -31,23 +39,11 @@ pub extern "C" fn nuorpyts_same_listing(
     if out.len() < 8 {
         return OUTSIDE;
     }
-    let p = record_in(a);
-    let RecordIn::Record(x) = p else {
-        return OUTSIDE;
-    };
-    let q = record_in(b);
-    let RecordIn::Record(y) = q else {
-        return OUTSIDE;
-    };
-    let compared = same_listing(first, x, second, y);
+    let compared = same_in(first, a, second, b);
     match compared {
-        Compared::Refused(n) => number(n),
-        Compared::Same => {
-            put_numbers(out, &[1]);
-            0
-        }
-        Compared::Differ => {
-            put_numbers(out, &[0]);
+        Err(n) => number(n),
+        Ok(same) => {
+            put_numbers(out, &[same as u64]);
             0
         }
     }

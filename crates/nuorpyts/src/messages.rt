@@ -8,7 +8,7 @@ ghost use Rattle.views.specs.Way.{way_at};
 ghost use Rattle.views.specs.Relation.{relation_at};
 ghost use Rattle.views.specs.DenseNodes.{dense_nodes_at};
 ghost use Rattle.views.specs.DenseInfo.{dense_info_at};
-ghost use Rattle.views.specs.Info.{info_fields, info_of};
+ghost use Rattle.views.specs.Info.{info_of};
 ghost use Rattle.answers.specs.Codes.{answer_code, answer_after};
 ghost use Rattle.layouts.specs.Views.{node_words, way_words, relation_words, dense_nodes_words, dense_info_words, info_words};
 
@@ -19,12 +19,13 @@ use layouts::messages::{
     way_numbers,
 };
 use protobuf::refusal::number;
-use views::dense_info::{DenseInfoParse, WireDenseInfo};
-use views::dense_nodes::{DenseNodesParse, WireDenseNodes};
-use views::info::{InfoParse, WireInfo};
-use views::node::{NodeParse, WireNode};
-use views::relation::{RelationParse, WireRelation};
-use views::way::{WayParse, WireWay};
+use views::dense_info::WireDenseInfo;
+use views::dense_nodes::WireDenseNodes;
+use views::info::WireInfo;
+use views::node::WireNode;
+use views::relation::WireRelation;
+use views::view::View;
+use views::way::WireWay;
 
 // The Node in `len` bytes from `start`: 14 where `out` is too short for its numbers, then what `WireNode::parse` refuses.
 #[unsafe(no_mangle)]
@@ -37,8 +38,8 @@ pub extern "C" fn nuorpyts_node(buffer: &[u8], start: usize, len: usize, out: &m
     }
     let r = WireNode::parse(buffer, start, len);
     match r {
-        NodeParse::Refused(n) => number(n),
-        NodeParse::Parsed(v) => {
+        Err(n) => number(n),
+        Ok(v) => {
             put_numbers(out, &node_numbers(v));
             0
         }
@@ -56,8 +57,8 @@ pub extern "C" fn nuorpyts_way(buffer: &[u8], start: usize, len: usize, out: &mu
     }
     let r = WireWay::parse(buffer, start, len);
     match r {
-        WayParse::Refused(n) => number(n),
-        WayParse::Parsed(v) => {
+        Err(n) => number(n),
+        Ok(v) => {
             put_numbers(out, &way_numbers(v));
             0
         }
@@ -75,8 +76,8 @@ pub extern "C" fn nuorpyts_relation(buffer: &[u8], start: usize, len: usize, out
     }
     let r = WireRelation::parse(buffer, start, len);
     match r {
-        RelationParse::Refused(n) => number(n),
-        RelationParse::Parsed(v) => {
+        Err(n) => number(n),
+        Ok(v) => {
             put_numbers(out, &relation_numbers(v));
             0
         }
@@ -99,8 +100,8 @@ pub extern "C" fn nuorpyts_dense_nodes(
     }
     let r = WireDenseNodes::parse(buffer, start, len);
     match r {
-        DenseNodesParse::Refused(n) => number(n),
-        DenseNodesParse::Parsed(v) => {
+        Err(n) => number(n),
+        Ok(v) => {
             put_numbers(out, &dense_nodes_numbers(v));
             0
         }
@@ -123,8 +124,8 @@ pub extern "C" fn nuorpyts_dense_info(
     }
     let r = WireDenseInfo::parse(buffer, start, len);
     match r {
-        DenseInfoParse::Refused(n) => number(n),
-        DenseInfoParse::Parsed(v) => {
+        Err(n) => number(n),
+        Ok(v) => {
             put_numbers(out, &dense_info_numbers(v));
             0
         }
@@ -134,16 +135,16 @@ pub extern "C" fn nuorpyts_dense_info(
 // The Info in `len` bytes from `start`: 14 where `out` is too short for its numbers, then what `WireInfo::parse` refuses.
 #[unsafe(no_mangle)]
 pub extern "C" fn nuorpyts_info(buffer: &[u8], start: usize, len: usize, out: &mut [u8]) -> u32
-    ensures code { result ≡ answer_code 12 out.old (each (λ slots. info_of (info_fields slots)) (view_in info buffer.now start len)) }
-    ensures after { out.new ≡ answer_after info_words out.old (each (λ slots. info_of (info_fields slots)) (view_in info buffer.now start len)) }
+    ensures code { result ≡ answer_code 12 out.old (each info_of (view_in info buffer.now start len)) }
+    ensures after { out.new ≡ answer_after info_words out.old (each info_of (view_in info buffer.now start len)) }
 {
     if out.len() < 96 {
         return OUTSIDE;
     }
     let r = WireInfo::parse(buffer, start, len);
     match r {
-        InfoParse::Refused(n) => number(n),
-        InfoParse::Parsed(v) => {
+        Err(n) => number(n),
+        Ok(v) => {
             put_numbers(out, &info_numbers(v));
             0
         }

@@ -14,18 +14,17 @@ ghost use Rattle.start_calls.specs.Starts.{refs_start_in, tags_start_in, members
 ghost use Rattle.nuorpyts.specs.Block.{Scanned-in, got_code, got_after};
 ghost use Rattle.nuorpyts.specs.Walks.{role_in, own_role};
 
-use answers::codes::{NONE, OUTSIDE};
-use answers::group::range_numbers;
-use answers::record::{RecordIn, record_in};
-use answers::words::put_numbers;
+use crate::blocks::give_range;
+use answers::codes::OUTSIDE;
+use answers::record::record_in;
 use calls::references::{next_ref, next_refs};
 use elements::members::{RelMemberIter, role_text};
 use elements::references::WayRefIter;
 use elements::tags::TagIter;
-use lookup::by_number::Got;
+use fields::part::Part;
 use member_calls::members::{next_member, next_members};
 use numbers::signed::{int32, is_int32};
-use protobuf::refusal::number;
+use protobuf::refusal::Refusal;
 use start_calls::starts::{start_members, start_refs, start_tags};
 use tag_calls::raw_tags::{next_raw_tag, next_raw_tags};
 use tag_calls::tags::{next_tag, next_tags};
@@ -184,6 +183,17 @@ pub extern "C" fn nuorpyts_members(
     next_members(buffer, rec, state, out, count)
 }
 
+// The text of a role, by the record in a slice: 14 where its number is no int32.
+fn role_in(buffer: &[u8], rec: &[u8], role: usize) -> Result<Option<Part>, Refusal>
+    ensures { result ≡ role_in buffer.now rec.now role }
+{
+    if !is_int32(role as u64) {
+        return Err(Refusal::Outside);
+    }
+    let block = record_in(rec)?;
+    role_text(buffer, block, int32(role as u64))
+}
+
 // The range of the text of a role, whose number is given as its two's complement at 64 bits: start and length go to `out`. 14 first where
 // `out` is shorter than them, `rec` is no record or the number is no int32; then 100 where there is none, as for a negative number, and 14
 // where its range passes the buffer. On the buffer and the record that `nuorpyts_scan` left, it is the block's own string of that number.
@@ -196,22 +206,6 @@ pub extern "C" fn nuorpyts_role(buffer: &[u8], rec: &[u8], role: usize, out: &mu
     if out.len() < 16 {
         return OUTSIDE;
     }
-    if !is_int32(role as u64) {
-        return OUTSIDE;
-    }
-    let r = record_in(rec);
-    match r {
-        RecordIn::Outside => OUTSIDE,
-        RecordIn::Record(block) => {
-            let got = role_text(buffer, block, int32(role as u64));
-            match got {
-                Got::Refused(n) => number(n),
-                Got::None => NONE,
-                Got::Text(part) => {
-                    put_numbers(out, &range_numbers(part));
-                    0
-                }
-            }
-        }
-    }
+    let got = role_in(buffer, rec, role);
+    give_range(got, out)
 }

@@ -3,36 +3,32 @@ ghost use Rattle.std.specs.Prelude.{◌≡◌};
 ghost use Rattle.fields.specs.Outcome.{onward};
 ghost use Rattle.block.specs.Check.{passed, same_three, read_whole, check_tags, check_members, check_pairs};
 ghost use Rattle.columns.specs.InStep.{ahead, start_of};
-ghost use Rattle.columns.specs.Counts.{counted};
-ghost use Rattle.passes.specs.Checked.{check_of};
 
-use crate::checked::Checked;
-use columns::counts::{Count, agree, count_values};
-use columns::keys_vals::{Behind, pass_pairs};
+use columns::counts::{agree, count_values};
+use columns::keys_vals::pass_pairs;
 use columns::reader::start_column;
 use fields::part::Part;
 use protobuf::column::Column;
+use protobuf::refusal::Refusal;
 
 // A count that is compared with no other.
-fn check_count(c: Count) -> Checked
-    ensures { check_of result ≡ onward (counted c) (λ n. passed) }
+fn check_count(c: Result<usize, Refusal>) -> Result<(), Refusal>
+    ensures { result ≡ onward c (λ n. passed) }
 {
-    match c {
-        Count::Refused(n) => Checked::Refused(n),
-        Count::Values(_) => Checked::Accepted,
-    }
+    c?;
+    Ok(())
 }
 
 // A column on its own.
-pub(crate) fn check_column(s: &[u8], part: Part) -> Checked
-    ensures { check_of result ≡ read_whole (ahead s.now (start_of part)) }
+pub(crate) fn check_column(s: &[u8], part: Part) -> Result<(), Refusal>
+    ensures { result ≡ read_whole (ahead s.now (start_of part)) }
 {
     check_count(count_values(s, start_column(part)))
 }
 
 // Keys and vals, whose counts must be equal.
-pub(crate) fn check_tags(s: &[u8], keys: Part, vals: Part) -> Checked
-    ensures { check_of result ≡ check_tags (ahead s.now (start_of keys)) (ahead s.now (start_of vals)) }
+pub(crate) fn check_tags(s: &[u8], keys: Part, vals: Part) -> Result<(), Refusal>
+    ensures { result ≡ check_tags (ahead s.now (start_of keys)) (ahead s.now (start_of vals)) }
 {
     let k = count_values(s, start_column(keys));
     let v = count_values(s, start_column(vals));
@@ -40,8 +36,8 @@ pub(crate) fn check_tags(s: &[u8], keys: Part, vals: Part) -> Checked
 }
 
 // How many values each of three columns has: all are read, one after the other, before 12 is given for different counts.
-pub(crate) fn count_three(s: &[u8], a: Part, b: Part, c: Part) -> Count
-    ensures { counted result ≡ same_three (ahead s.now (start_of a)) (ahead s.now (start_of b)) (ahead s.now (start_of c)) }
+pub(crate) fn count_three(s: &[u8], a: Part, b: Part, c: Part) -> Result<usize, Refusal>
+    ensures { result ≡ same_three (ahead s.now (start_of a)) (ahead s.now (start_of b)) (ahead s.now (start_of c)) }
 {
     let l = count_values(s, start_column(a));
     let m = count_values(s, start_column(b));
@@ -50,27 +46,19 @@ pub(crate) fn count_three(s: &[u8], a: Part, b: Part, c: Part) -> Count
 }
 
 // Roles, memids and types, whose counts must be equal.
-pub(crate) fn check_members(s: &[u8], roles: Part, memids: Part, types: Part) -> Checked
-    ensures { check_of result ≡ check_members (ahead s.now (start_of roles)) (ahead s.now (start_of memids)) (ahead s.now (start_of types)) }
+pub(crate) fn check_members(s: &[u8], roles: Part, memids: Part, types: Part) -> Result<(), Refusal>
+    ensures { result ≡ check_members (ahead s.now (start_of roles)) (ahead s.now (start_of memids)) (ahead s.now (start_of types)) }
 {
     check_count(count_three(s, roles, memids, types))
 }
 
 // keys_vals as walked for `n` nodes; what stands behind their pairs is not read.
-pub(crate) fn check_pairs(s: &[u8], keyvals: Column, n: usize) -> Checked
-    ensures { check_of result ≡ check_pairs n (ahead s.now keyvals) }
+pub(crate) fn check_pairs(s: &[u8], keyvals: Column, n: usize) -> Result<(), Refusal>
+    ensures { result ≡ check_pairs n (ahead s.now keyvals) }
 {
     let mut column = keyvals;
-    let mut i = 0;
-    while i < n {
-        let r = pass_pairs(s, column);
-        match r {
-            Behind::Refused(e) => return Checked::Refused(e),
-            Behind::Column(next) => {
-                column = next;
-                i += 1;
-            }
-        }
+    for _ in 0..n {
+        column = pass_pairs(s, column)?;
     }
-    Checked::Accepted
+    Ok(())
 }

@@ -2,95 +2,55 @@
 ghost use Rattle.std.specs.Prelude.{◌≡◌};
 ghost use Rattle.block.specs.Check.{check_info, check_common, check_node, check_way, check_relation};
 ghost use Rattle.columns.specs.InStep.{ahead, start_of};
-ghost use Rattle.passes.specs.Checked.{check_of};
 ghost use Rattle.fields.specs.Part.{bytes_of};
 
-use crate::checked::Checked;
 use crate::columns_check::{check_column, check_members, check_tags};
 use fields::part::{Part, bytes_of};
-use views::info::{InfoParse, WireInfo};
-use views::node::{NodeParse, WireNode};
-use views::relation::{RelationParse, WireRelation};
-use views::way::{WayParse, WireWay};
+use protobuf::refusal::Refusal;
+use views::info::WireInfo;
+use views::node::WireNode;
+use views::relation::WireRelation;
+use views::view::View;
+use views::way::WireWay;
 
 // An Info.
-fn check_info(s: &[u8]) -> Checked
-    ensures { check_of result ≡ check_info s.now }
+fn check_info(s: &[u8]) -> Result<(), Refusal>
+    ensures { result ≡ check_info s.now }
 {
-    let p = WireInfo::parse(s, 0, s.len());
-    match p {
-        InfoParse::Refused(n) => Checked::Refused(n),
-        InfoParse::Parsed(_) => Checked::Accepted,
-    }
+    WireInfo::parse(s, 0, s.len())?;
+    Ok(())
 }
 
 // What every element has: its Info, keys and vals, parts of its message.
-fn check_common(s: &[u8], info: Part, keys: Part, vals: Part) -> Checked
-    ensures { check_of result ≡ check_common (bytes_of s.now info) (ahead s.now (start_of keys)) (ahead s.now (start_of vals)) }
+fn check_common(s: &[u8], info: Part, keys: Part, vals: Part) -> Result<(), Refusal>
+    ensures { result ≡ check_common (bytes_of s.now info) (ahead s.now (start_of keys)) (ahead s.now (start_of vals)) }
 {
-    let c = check_info(bytes_of(s, info));
-    match c {
-        Checked::Refused(n) => Checked::Refused(n),
-        Checked::Accepted => check_tags(s, keys, vals),
-    }
+    check_info(bytes_of(s, info))?;
+    check_tags(s, keys, vals)
 }
 
 // The whole of `s` as a node: accepted, or the first refusal of the message, its Info, its keys, its vals, or 12 of their counts.
-pub fn check_node(s: &[u8]) -> Checked
-    ensures { check_of result ≡ check_node s.now }
+pub fn check_node(s: &[u8]) -> Result<(), Refusal>
+    ensures { result ≡ check_node s.now }
 {
-    let p = WireNode::parse(s, 0, s.len());
-    match p {
-        NodeParse::Refused(n) => Checked::Refused(n),
-        NodeParse::Parsed(v) => {
-            let info = v.info;
-            let keys = v.keys;
-            let vals = v.vals;
-            check_common(s, info, keys, vals)
-        }
-    }
+    let v = WireNode::parse(s, 0, s.len())?;
+    check_common(s, v.info, v.keys, v.vals)
 }
 
 // The same of a way, and then its refs.
-pub fn check_way(s: &[u8]) -> Checked
-    ensures { check_of result ≡ check_way s.now }
+pub fn check_way(s: &[u8]) -> Result<(), Refusal>
+    ensures { result ≡ check_way s.now }
 {
-    let p = WireWay::parse(s, 0, s.len());
-    match p {
-        WayParse::Refused(n) => Checked::Refused(n),
-        WayParse::Parsed(v) => {
-            let info = v.info;
-            let keys = v.keys;
-            let vals = v.vals;
-            let refs = v.refs;
-            let c = check_common(s, info, keys, vals);
-            match c {
-                Checked::Refused(n) => Checked::Refused(n),
-                Checked::Accepted => check_column(s, refs),
-            }
-        }
-    }
+    let v = WireWay::parse(s, 0, s.len())?;
+    check_common(s, v.info, v.keys, v.vals)?;
+    check_column(s, v.refs)
 }
 
 // The same of a relation, and then its roles, memids and types, and 12 of their counts.
-pub fn check_relation(s: &[u8]) -> Checked
-    ensures { check_of result ≡ check_relation s.now }
+pub fn check_relation(s: &[u8]) -> Result<(), Refusal>
+    ensures { result ≡ check_relation s.now }
 {
-    let p = WireRelation::parse(s, 0, s.len());
-    match p {
-        RelationParse::Refused(n) => Checked::Refused(n),
-        RelationParse::Parsed(v) => {
-            let info = v.info;
-            let keys = v.keys;
-            let vals = v.vals;
-            let roles = v.roles;
-            let memids = v.memids;
-            let types = v.types;
-            let c = check_common(s, info, keys, vals);
-            match c {
-                Checked::Refused(n) => Checked::Refused(n),
-                Checked::Accepted => check_members(s, roles, memids, types),
-            }
-        }
-    }
+    let v = WireRelation::parse(s, 0, s.len())?;
+    check_common(s, v.info, v.keys, v.vals)?;
+    check_members(s, v.roles, v.memids, v.types)
 }

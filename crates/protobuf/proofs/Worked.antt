@@ -1,21 +1,18 @@
 -- Worked values: every clause of document 01, section 1, and of the Protocol Buffers text beside it, at concrete bytes. They are proved by
 -- computing the definitions, so a definition that says something else does not pass, however the code and the laws are changed with it.
 -- Bytes are hexadecimal; `negsuc n` is −(n + 1).
-use Rattle.std.specs.Prelude.{ℕ, suc, ◌+◌, ◌-◌, ◌^◌, true, false, ◌≡◌, refl, List, [], ◌∷◌, ◌++◌, map, replicate, pos, negsuc}
+use Rattle.std.specs.Prelude.{ℕ, suc, ◌+◌, ◌-◌, ◌^◌, true, false, ◌≡◌, refl, List, [], ◌∷◌, ◌++◌, map, replicate, pos, negsuc, Ok, Err, Some, None}
 use Rattle.std.proofs.Common.{arith}
 use Rattle.protobuf.specs.declared.refusal.Refusal.TheVariants.{BlockTooLong, VarintCut, VarintLong, TagValue, WireType as BadWireType, PastEnd, GroupDepth, Granularity, SecondColumn, SecondInfo, SecondDense, Counts, NoRoom, Outside}
-use Rattle.protobuf.specs.declared.varint.Varint.TheVariants.{Value, Refused}
-use Rattle.protobuf.specs.declared.tag.Tag.TheVariants as tag-answer
-use Rattle.protobuf.specs.declared.column.Step.TheVariants as step-answer
 use Rattle.protobuf.specs.Refusal.{number}
-use Rattle.protobuf.specs.Read.{taken, refused, and_then}
+use Rattle.protobuf.specs.Read.{and_then}
 use Rattle.protobuf.specs.Varint.{digits, varint}
-use Rattle.protobuf.specs.Tag.{tag_by, legal, tag, tag_at, done, tagged, untagged}
+use Rattle.protobuf.specs.Tag.{tag_by, legal, tag, tag_at}
 use Rattle.protobuf.specs.Stream.{Stream, Item, end, more, last, item, unrolled, mapped}
 use Rattle.protobuf.specs.Short.{Short}
 use Rattle.numbers.specs.Signed.{signed, twos, unzigzag, zigzag, residue, wrap}
 use Rattle.protobuf.specs.Column.{ColumnEnd, ended, cut, value_at, column_from, column, int32s, uint32s, sint32s, sint64s, bools, sums_from, sums, step_at}
-use Rattle.protobuf.specs.Answers.{varint_of, refusal_of, tag_of, step_by}
+use Rattle.protobuf.specs.Answers.{step_by}
 
 -- the table of numbers that come back
 pub record Numbers : Type 0 where
@@ -26,19 +23,19 @@ numbers-worked = record { in_order = refl }
 
 -- one to ten bytes, low seven bits first, modulo 2^64
 pub record Varints : Type 0 where
-  pub one_byte : varint (0x7F ∷ []) 0 ≡ taken 127 1
-  pub two_bytes : varint (0x96 ∷ 0x01 ∷ []) 0 ≡ taken 150 2
-  pub at_a_place : varint (0xFF ∷ 0x96 ∷ 0x01 ∷ 0xFF ∷ []) 1 ≡ taken 150 3
-  pub overlong : varint (0x81 ∷ 0x80 ∷ 0x00 ∷ []) 0 ≡ taken 1 3
-  pub largest : varint (replicate 9 0xFF ++ 0x01 ∷ []) 0 ≡ taken (2 ^ 64 - 1) 10
-  pub tenth_byte_odd : varint (replicate 9 0xFF ++ 0x03 ∷ []) 0 ≡ taken (2 ^ 64 - 1) 10
-  pub tenth_byte_even : varint (replicate 9 0xFF ++ 0x7E ∷ []) 0 ≡ taken (2 ^ 63 - 1) 10
-  pub ten_top-bits : varint (replicate 10 0xFF) 0 ≡ refused VarintLong
-  pub eleventh_unread : varint (replicate 10 0x80 ++ 0x00 ∷ []) 0 ≡ refused VarintLong
-  pub cut : varint (0x96 ∷ []) 0 ≡ refused VarintCut
-  pub cut_in_the_tenth : varint (replicate 9 0xFF) 0 ≡ refused VarintCut
-  pub at_the_end : varint (0x01 ∷ []) 1 ≡ refused VarintCut
-  pub behind_the_end : varint (0x01 ∷ []) 2 ≡ refused Outside
+  pub one_byte : varint (0x7F ∷ []) 0 ≡ Ok (127, 1)
+  pub two_bytes : varint (0x96 ∷ 0x01 ∷ []) 0 ≡ Ok (150, 2)
+  pub at_a_place : varint (0xFF ∷ 0x96 ∷ 0x01 ∷ 0xFF ∷ []) 1 ≡ Ok (150, 3)
+  pub overlong : varint (0x81 ∷ 0x80 ∷ 0x00 ∷ []) 0 ≡ Ok (1, 3)
+  pub largest : varint (replicate 9 0xFF ++ 0x01 ∷ []) 0 ≡ Ok (2 ^ 64 - 1, 10)
+  pub tenth_byte_odd : varint (replicate 9 0xFF ++ 0x03 ∷ []) 0 ≡ Ok (2 ^ 64 - 1, 10)
+  pub tenth_byte_even : varint (replicate 9 0xFF ++ 0x7E ∷ []) 0 ≡ Ok (2 ^ 63 - 1, 10)
+  pub ten_top-bits : varint (replicate 10 0xFF) 0 ≡ Err VarintLong
+  pub eleventh_unread : varint (replicate 10 0x80 ++ 0x00 ∷ []) 0 ≡ Err VarintLong
+  pub cut : varint (0x96 ∷ []) 0 ≡ Err VarintCut
+  pub cut_in_the_tenth : varint (replicate 9 0xFF) 0 ≡ Err VarintCut
+  pub at_the_end : varint (0x01 ∷ []) 1 ≡ Err VarintCut
+  pub behind_the_end : varint (0x01 ∷ []) 2 ≡ Err Outside
 
 pub varints_worked : Varints
 unfolding and_then digits varint
@@ -61,18 +58,18 @@ varints_worked =
 
 -- the field number times 8 plus the wire type
 pub record Tags : Type 0 where
-  pub smallest : tag (0x08 ∷ []) 0 ≡ taken (tag_by 1 0) 1
-  pub two_bytes : tag (0x8A ∷ 0x01 ∷ []) 0 ≡ taken (tag_by 17 2) 2
-  pub largest : tag (0xFF ∷ 0xFF ∷ 0xFF ∷ 0xFF ∷ 0x0F ∷ []) 0 ≡ taken (tag_by 536870911 7) 5
-  pub too_large : tag (0x80 ∷ 0x80 ∷ 0x80 ∷ 0x80 ∷ 0x10 ∷ []) 0 ≡ refused TagValue
-  pub field-zero : tag (0x07 ∷ []) 0 ≡ refused TagValue
-  pub zero : tag (0x00 ∷ []) 0 ≡ refused TagValue
-  pub cut : tag (0x88 ∷ []) 0 ≡ refused VarintCut
-  pub long : tag (replicate 10 0xFF) 0 ≡ refused VarintLong
-  pub here : tag_at (0x08 ∷ 0x01 ∷ []) 0 ≡ tagged (tag_by 1 0) 1
-  pub not-legal-here : tag_at (0x07 ∷ []) 0 ≡ untagged TagValue
-  pub done-at_the_end : tag_at (0x08 ∷ 0x01 ∷ []) 2 ≡ done
-  pub behind_the_end : tag_at (0x08 ∷ 0x01 ∷ []) 3 ≡ untagged Outside
+  pub smallest : tag (0x08 ∷ []) 0 ≡ Ok (tag_by 1 0, 1)
+  pub two_bytes : tag (0x8A ∷ 0x01 ∷ []) 0 ≡ Ok (tag_by 17 2, 2)
+  pub largest : tag (0xFF ∷ 0xFF ∷ 0xFF ∷ 0xFF ∷ 0x0F ∷ []) 0 ≡ Ok (tag_by 536870911 7, 5)
+  pub too_large : tag (0x80 ∷ 0x80 ∷ 0x80 ∷ 0x80 ∷ 0x10 ∷ []) 0 ≡ Err TagValue
+  pub field-zero : tag (0x07 ∷ []) 0 ≡ Err TagValue
+  pub zero : tag (0x00 ∷ []) 0 ≡ Err TagValue
+  pub cut : tag (0x88 ∷ []) 0 ≡ Err VarintCut
+  pub long : tag (replicate 10 0xFF) 0 ≡ Err VarintLong
+  pub here : tag_at (0x08 ∷ 0x01 ∷ []) 0 ≡ Ok (Some (tag_by 1 0, 1))
+  pub not-legal-here : tag_at (0x07 ∷ []) 0 ≡ Err TagValue
+  pub done-at_the_end : tag_at (0x08 ∷ 0x01 ∷ []) 2 ≡ Ok None
+  pub behind_the_end : tag_at (0x08 ∷ 0x01 ∷ []) 3 ≡ Err Outside
 
 pub tags-worked : Tags
 unfolding and_then digits varint legal tag tag_at
@@ -159,13 +156,9 @@ types-worked =
 
 -- what the code's answers say
 pub record Said : Type 0 where
-  pub of_a_value : refusal_of (Value 5 1) ≡ Outside
-  pub of_a_refusal : refusal_of (Refused VarintLong) ≡ VarintLong
-  pub a_value : varint_of (Value 150 2) ≡ taken 150 2
-  pub a_tag : tag_of (tag-answer.Field 17 2 3) ≡ tagged (tag_by 17 2) 3
-  pub a_step : step_by 9 (item 150 2) ≡ step-answer.Value 150 (record { at = 2; end = 9 })
-  pub a_refused_step : step_by 9 (last (cut VarintCut)) ≡ step-answer.Refused VarintCut (record { at = 0; end = 0 })
-  pub an_ended_step : step_by 9 (last ended) ≡ step-answer.Ended
+  pub a_step : step_by 9 (item 150 2) ≡ Ok (Some (150, record { at = 2; end = 9 }))
+  pub a_refused_step : step_by 9 (last (cut VarintCut)) ≡ Err VarintCut
+  pub an_ended_step : step_by 9 (last ended) ≡ Ok None
   pub a_word : (i : Item ℕ ColumnEnd) → Short i 3 82 → i ≡ item 5 5
   pub a_word-of-one_byte : (word : ℕ) → Short (item 5 4) 3 word → word ≡ 81
   pub no_word-at_the_end : (word : ℕ) → Short (last ended) 3 (suc word) → ⊥
@@ -173,10 +166,6 @@ pub record Said : Type 0 where
 pub said-worked : Said
 said-worked =
     record {
-      of_a_value = refl;
-      of_a_refusal = refl;
-      a_value = refl;
-      a_tag = refl;
       a_step = refl;
       a_refused_step = refl;
       an_ended_step = refl;

@@ -1,9 +1,9 @@
 -- A column (Protocol Buffers, "Packed Repeated Fields"): varints up to the end of its bytes. What its field's type makes of each is a map
 -- over the stream: int32 and uint32 keep the low 32 bits, sint32 unzigzags them, sint64 unzigzags all 64, a bool is true unless 0.
-use Rattle.std.specs.Prelude.{ℕ, suc, ◌%◌, ◌^◌, List, Bool, not, length, take, eqb, leb, ℤ, pos}
+use Rattle.std.specs.Prelude.{ℕ, suc, ◌%◌, ◌^◌, List, Bool, not, length, take, eqb, leb, ℤ, pos, Ok, Err}
 use Rattle.protobuf.specs.declared.refusal.Refusal.{Refusal}
 use Rattle.protobuf.specs.declared.refusal.Refusal.TheVariants.{Outside}
-use Rattle.protobuf.specs.Read.{Read, taken, refused}
+use Rattle.protobuf.specs.Read.{Read}
 use Rattle.numbers.specs.Choose.{choose}
 use Rattle.protobuf.specs.Varint.{varint}
 use Rattle.numbers.specs.Signed.{twos, zigzag, wrapping_add}
@@ -17,8 +17,8 @@ abbrev pub Column : Type 0 → Type 0
 Column A = Stream A ColumnEnd
 
 abbrev pub or_cut : Read ℕ → Item ℕ ColumnEnd
-or_cut (taken v q) = item v q
-or_cut (refused r) = last (cut r)
+or_cut (Ok (v, q)) = item v q
+or_cut (Err r) = last (cut r)
 
 unfoldable pub value_at : List ℕ → ℕ → Item ℕ ColumnEnd
 value_at s p = choose (eqb p (length s)) (last ended) (or_cut (varint s p))

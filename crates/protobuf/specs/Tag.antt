@@ -1,15 +1,12 @@
 -- A tag (Protocol Buffers, "Message Structure"): a varint that is the field number times 8 plus the wire type. A value above 2^32 − 1 and
 -- the field number 0 are refused, whatever the wire type. `tag_at` is a tag where the message may also be done.
-use Rattle.std.specs.Prelude.{ℕ, zero, suc, ◌/◌, ◌%◌, ◌^◌, List, length, ltb, eqb}
+use Rattle.std.specs.Prelude.{ℕ, zero, suc, ◌/◌, ◌%◌, ◌^◌, List, length, ltb, eqb, Option, Some, None, Result, Ok, Err}
 use Rattle.protobuf.specs.declared.refusal.Refusal.{Refusal}
+pub use Rattle.protobuf.specs.declared.tag.Tag.{Tag}
 use Rattle.protobuf.specs.declared.refusal.Refusal.TheVariants.{TagValue}
-use Rattle.protobuf.specs.Read.{Read, taken, refused, and_then}
+use Rattle.protobuf.specs.Read.{Read, and_then}
 use Rattle.numbers.specs.Choose.{choose}
 use Rattle.protobuf.specs.Varint.{varint}
-
-pub record Tag : Type 0 where
-  pub field : ℕ
-  pub wire : ℕ
 
 abbrev pub tag_by : ℕ → ℕ → Tag
 tag_by field wire = record { field = field; wire = wire }
@@ -18,22 +15,21 @@ abbrev pub split : ℕ → Tag
 split v = tag_by (v / 8) (v % 8)
 
 unfoldable pub legal : ℕ → ℕ → Read Tag
-legal v next = choose (ltb v 8) (refused TagValue) (choose (ltb v (2 ^ 32)) (taken (split v) next) (refused TagValue))
+legal v next = choose (ltb v 8) (Err TagValue) (choose (ltb v (2 ^ 32)) (Ok (split v, next)) (Err TagValue))
 
 unfoldable pub tag : List ℕ → ℕ → Read Tag
 tag s p = and_then (varint s p) legal
 
-pub data TagAt : Type 0 where
-  done : TagAt
-  tagged : Tag → ℕ → TagAt
-  untagged : Refusal → TagAt
+-- a tag with the place behind it, none where the message is done, or a refusal
+abbrev pub TagAt : Type 0
+TagAt = Result (Option (Tag × ℕ)) Refusal
 
 abbrev pub due : Read Tag → TagAt
-due (taken t next) = tagged t next
-due (refused r) = untagged r
+due (Ok t) = Ok (Some t)
+due (Err r) = Err r
 
 unfoldable pub tag_at : List ℕ → ℕ → TagAt
-tag_at s p = choose (eqb p (length s)) done (due (tag s p))
+tag_at s p = choose (eqb p (length s)) (Ok None) (due (tag s p))
 
 -- the wire types, by the text's names
 pub data WireType : Type 0 where

@@ -2,11 +2,11 @@
 ghost use Rattle.std.specs.Prelude.{◌≡◌, ◌≤◌, length, take};
 ghost use Rattle.protobuf.specs.Varint.{varint};
 ghost use Rattle.protobuf.specs.Column.{or_cut, step_at};
-ghost use Rattle.protobuf.specs.Answers.{step_by, over};
+ghost use Rattle.protobuf.specs.Answers.{step_by};
 ghost use Rattle.protobuf.specs.Short.{Short};
 
 use crate::refusal::Refusal;
-use crate::varint::{Varint, read_varint, refusal_of};
+use crate::varint::read_varint;
 
 // Where a reader of a column stands, and where the column ends. It has ended where the two are equal.
 #[derive(Clone, Copy)]
@@ -15,71 +15,46 @@ pub struct Column {
     pub end: usize,
 }
 
-// What the reader finds next, with its next state. A refusal ends it: its state is the ended one that is inside every buffer.
-#[derive(Clone, Copy)]
-pub enum Step {
-    Value { value: u64, next: Column },
-    Ended,
-    Refused { refusal: Refusal, next: Column },
-}
-
-fn refused(refusal: Refusal) -> Step
-    ensures { result ≡ Step.Refused refusal over }
-{
-    Step::Refused {
-        refusal,
-        next: Column { at: 0, end: 0 },
-    }
-}
-
 // The value of a column that ends at `end`, by its varint, which may not pass that end.
-fn long_value(s: &[u8], at: usize, end: usize) -> Step
+fn long_value(s: &[u8], at: usize, end: usize) -> Result<Option<(u64, Column)>, Refusal>
     requires { end ≤ length s.now }
     ensures { result ≡ step_by end (or_cut (varint (take end s.now) at)) }
 {
     let r = read_varint(&s[..end], at);
-    let Varint::Value { value, next } = r else {
-        return refused(refusal_of(r));
+    let Ok((value, next)) = r else {
+        return Err(r.unwrap_err());
     };
-    Step::Value {
-        value,
-        next: Column { at: next, end },
-    }
+    Ok(Some((value, Column { at: next, end })))
 }
 
-// The next value of a column: 14 unless the state is inside the bytes (at ≤ end ≤ length), then 2 and 3 of the varint, which may not pass
-// the column's end.
-pub fn next_value(s: &[u8], column: Column) -> Step
+// The next value of a column with the state behind it, and none at the end: 14 unless the state is inside the bytes (at ≤ end ≤ length), then
+// 2 and 3 of the varint, which may not pass the column's end.
+#[inline(always)]
+pub fn next_value(s: &[u8], column: Column) -> Result<Option<(u64, Column)>, Refusal>
     ensures { result ≡ step_by column.end (step_at s.now column.at column.end) }
 {
     let at = column.at;
     let end = column.end;
     if end < at {
-        return refused(Refusal::Outside);
+        return Err(Refusal::Outside);
     }
     if s.len() < end {
-        return refused(Refusal::Outside);
+        return Err(Refusal::Outside);
     }
     if at == end {
-        return Step::Ended;
+        return Ok(None);
     }
     // Most values of a map's columns have one byte or two, and a call costs more than reading them.
     let byte = s[at];
     if byte < 128 {
-        return Step::Value {
-            value: byte as u64,
-            next: Column { at: at + 1, end },
-        };
+        return Ok(Some((byte as u64, Column { at: at + 1, end })));
     }
-    if end - at < 2 {
-        return long_value(s, at, end);
-    }
-    let second = s[at + 1];
-    if second < 128 {
-        return Step::Value {
-            value: (byte % 128) as u64 + 128 * (second as u64),
-            next: Column { at: at + 2, end },
-        };
+    if 2 <= end - at {
+        let second = s[at + 1];
+        if second < 128 {
+            let value = (byte % 128) as u64 + 128 * (second as u64);
+            return Ok(Some((value, Column { at: at + 2, end })));
+        }
     }
     long_value(s, at, end)
 }
@@ -128,8 +103,7 @@ pub fn wide_value(s: &[u8], at: usize, end: usize) -> u64
     if byte < 128 {
         return 16 * (byte as u64) + 1;
     }
-    let r = read_varint(&s[..end], at);
-    let Varint::Value { value, next } = r else {
+    let Ok((value, next)) = read_varint(&s[..end], at) else {
         return 0;
     };
     let bytes = next - at;

@@ -1,37 +1,29 @@
-// Columns (Protocol Buffers, "Packed Repeated Fields"): each value with the place behind it, up to the end. The steps go on from the state
-// that a refusal hands back too, which shows that it is an ended one.
+// Columns (Protocol Buffers, "Packed Repeated Fields"): each value with the place behind it, up to the end. A refusal ends a column: the steps go
+// on from the state that has ended in every buffer.
 use crate::out::{end_line, input, input_at, input_between, named, named_signed, refused, text};
-use message::payload::{Payload, read_len_delimited};
+use message::payload::read_len_delimited;
 use numbers::signed::{wrapping_add_i64, zigzag_i64};
-use protobuf::column::{Column, Step, next_value};
+use protobuf::column::{Column, next_value};
 use std::io;
 use std::io::Write;
 
-// Where a reader goes on, or that it has ended.
-#[derive(Clone, Copy)]
-enum Going {
-    On(Column),
-    Ended,
-}
-
-// One step, printed.
-fn step<W: Write>(out: &mut W, s: &[u8], state: Column) -> io::Result<Going> {
-    let r = next_value(s, state);
-    match r {
-        Step::Value { value, next } => {
+// One step, printed; where the reader goes on, or none behind the end.
+fn step<W: Write>(out: &mut W, s: &[u8], state: Column) -> io::Result<Option<Column>> {
+    match next_value(s, state) {
+        Ok(Some((value, next))) => {
             named(out, b" ", value)?;
             named(out, b" (next ", next.at as u64)?;
             text(out, b"),")?;
-            Ok(Going::On(next))
+            Ok(Some(next))
         }
-        Step::Refused { refusal, next } => {
+        Err(refusal) => {
             refused(out, refusal)?;
             text(out, b",")?;
-            Ok(Going::On(next))
+            Ok(Some(Column { at: 0, end: 0 }))
         }
-        Step::Ended => {
+        Ok(None) => {
             text(out, b" ended")?;
-            Ok(Going::Ended)
+            Ok(None)
         }
     }
 }
@@ -42,8 +34,7 @@ fn steps<W: Write>(out: &mut W, s: &[u8], column: Column) -> io::Result<()> {
     let mut left = s.len() + 2;
     while 0 < left {
         left -= 1;
-        let g = step(out, s, state)?;
-        let Going::On(next) = g else {
+        let Some(next) = step(out, s, state)? else {
             return Ok(());
         };
         state = next;
@@ -60,22 +51,16 @@ fn column<W: Write>(out: &mut W, label: &[u8], s: &[u8], at: usize, end: usize) 
 // The column that a length-delimited field holds. `at` is the place behind its tag.
 fn packed<W: Write>(out: &mut W, label: &[u8], s: &[u8], at: usize) -> io::Result<()> {
     input_at(out, label, s, at)?;
-    let r = read_len_delimited(s, at);
-    match r {
-        Payload::Taken {
-            value: _,
-            start,
-            len: _,
-            next,
-        } => steps(
+    match read_len_delimited(s, at) {
+        Ok((raw, next)) => steps(
             out,
             s,
             Column {
-                at: start,
+                at: raw.start,
                 end: next,
             },
         )?,
-        Payload::Refused(n) => refused(out, n)?,
+        Err(n) => refused(out, n)?,
     }
     end_line(out)
 }
@@ -87,24 +72,14 @@ struct Running {
     sum: i64,
 }
 
-// The sum that one more difference gives, or that there is none.
-#[derive(Clone, Copy)]
-enum Sum {
-    So(Running),
-    Ended,
-}
-
-// The next sum, which wraps, printed.
-fn add_next<W: Write>(out: &mut W, s: &[u8], running: Running) -> io::Result<Sum> {
-    let state = running.state;
-    let so_far = running.sum;
-    let r = next_value(s, state);
-    let Step::Value { value, next } = r else {
-        return Ok(Sum::Ended);
+// The next sum, which wraps, printed; none where the column has no more.
+fn add_next<W: Write>(out: &mut W, s: &[u8], running: Running) -> io::Result<Option<Running>> {
+    let Ok(Some((value, state))) = next_value(s, running.state) else {
+        return Ok(None);
     };
-    let sum = wrapping_add_i64(so_far, zigzag_i64(value));
+    let sum = wrapping_add_i64(running.sum, zigzag_i64(value));
     named_signed(out, b" ", sum)?;
-    Ok(Sum::So(Running { state: next, sum }))
+    Ok(Some(Running { state, sum }))
 }
 
 // The sums of a whole column, which takes a byte at least for each.
@@ -120,8 +95,7 @@ fn sums<W: Write>(out: &mut W, label: &[u8], s: &[u8]) -> io::Result<()> {
     let mut left = s.len();
     while 0 < left {
         left -= 1;
-        let r = add_next(out, s, running)?;
-        let Sum::So(next) = r else {
+        let Some(next) = add_next(out, s, running)? else {
             break;
         };
         running = next;

@@ -2,7 +2,8 @@
 // place behind them, and the raw bytes themselves; and the same of whole fields, a tag and its payload, as the text's messages have them.
 use crate::out::{bytes, end_line, input_at, named, refused, text};
 use message::payload::{Payload, read_len_delimited, read_payload, read_raw_varint};
-use protobuf::tag::{Tag, read_tag};
+use protobuf::refusal::Refusal;
+use protobuf::tag::read_tag;
 use std::io;
 use std::io::Write;
 
@@ -18,22 +19,21 @@ fn part(s: &[u8], start: usize, len: usize) -> &[u8] {
     &s[start..end]
 }
 
-fn payload<W: Write>(out: &mut W, s: &[u8], r: Payload) -> io::Result<()> {
+fn payload<W: Write>(
+    out: &mut W,
+    s: &[u8],
+    r: Result<(Payload, usize), Refusal>,
+) -> io::Result<()> {
     match r {
-        Payload::Taken {
-            value,
-            start,
-            len,
-            next,
-        } => {
-            named(out, b" value ", value)?;
-            named(out, b", start ", start as u64)?;
-            named(out, b", length ", len as u64)?;
+        Ok((raw, next)) => {
+            named(out, b" value ", raw.value)?;
+            named(out, b", start ", raw.start as u64)?;
+            named(out, b", length ", raw.len as u64)?;
             named(out, b", next ", next as u64)?;
             text(out, b", raw")?;
-            bytes(out, part(s, start, len))?;
+            bytes(out, part(s, raw.start, raw.len))?;
         }
-        Payload::Refused(n) => refused(out, n)?,
+        Err(n) => refused(out, n)?,
     }
     Ok(())
 }
@@ -58,16 +58,15 @@ fn typed<W: Write>(out: &mut W, label: &[u8], s: &[u8], at: usize, wire: u32) ->
 }
 
 fn field_at<W: Write>(out: &mut W, s: &[u8], at: usize) -> io::Result<()> {
-    let t = read_tag(s, at);
-    match t {
-        Tag::Done => text(out, b" done")?,
-        Tag::Field { field, wire, next } => {
-            named(out, b" field ", field as u64)?;
-            named(out, b", type ", wire as u64)?;
+    match read_tag(s, at) {
+        Ok(None) => text(out, b" done")?,
+        Ok(Some((tag, next))) => {
+            named(out, b" field ", tag.field as u64)?;
+            named(out, b", type ", tag.wire as u64)?;
             text(out, b":")?;
-            payload(out, s, read_payload(s, next, field, wire))?;
+            payload(out, s, read_payload(s, next, tag.field, tag.wire))?;
         }
-        Tag::Refused(n) => refused(out, n)?,
+        Err(n) => refused(out, n)?,
     }
     Ok(())
 }
@@ -81,18 +80,12 @@ fn field<W: Write>(out: &mut W, label: &[u8], s: &[u8], at: usize) -> io::Result
 // The bytes of a string field, as the text that they spell. `at` is the place behind its tag.
 fn string<W: Write>(out: &mut W, label: &[u8], s: &[u8], at: usize) -> io::Result<()> {
     input_at(out, label, s, at)?;
-    let r = read_len_delimited(s, at);
-    match r {
-        Payload::Taken {
-            value: _,
-            start,
-            len,
-            next: _,
-        } => {
+    match read_len_delimited(s, at) {
+        Ok((raw, _)) => {
             text(out, b" ")?;
-            text(out, part(s, start, len))?;
+            text(out, part(s, raw.start, raw.len))?;
         }
-        Payload::Refused(n) => refused(out, n)?,
+        Err(n) => refused(out, n)?,
     }
     end_line(out)
 }
@@ -101,15 +94,9 @@ fn string<W: Write>(out: &mut W, label: &[u8], s: &[u8], at: usize) -> io::Resul
 // place behind the outer tag.
 fn inside<W: Write>(out: &mut W, label: &[u8], s: &[u8], at: usize) -> io::Result<()> {
     input_at(out, label, s, at)?;
-    let r = read_len_delimited(s, at);
-    match r {
-        Payload::Taken {
-            value: _,
-            start,
-            len,
-            next: _,
-        } => field_at(out, part(s, start, len), 0)?,
-        Payload::Refused(n) => refused(out, n)?,
+    match read_len_delimited(s, at) {
+        Ok((raw, _)) => field_at(out, part(s, raw.start, raw.len), 0)?,
+        Err(n) => refused(out, n)?,
     }
     end_line(out)
 }

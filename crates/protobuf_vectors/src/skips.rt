@@ -1,15 +1,16 @@
 // Passing over a field (Protocol Buffers, "Message Structure", "Groups"): the place behind it, or the refusal. A skipped group goes up to its
 // own end tag, and sixteen may be open at a time.
 use crate::out::{end_line, input, input_at, named, refused, text};
-use message::payload::{Skip, skip_field};
-use protobuf::tag::{Tag, read_tag};
+use message::payload::skip_field;
+use protobuf::refusal::Refusal;
+use protobuf::tag::read_tag;
 use std::io;
 use std::io::Write;
 
-fn outcome<W: Write>(out: &mut W, r: Skip) -> io::Result<()> {
+fn outcome<W: Write>(out: &mut W, r: Result<usize, Refusal>) -> io::Result<()> {
     match r {
-        Skip::Past(next) => named(out, b" past ", next as u64)?,
-        Skip::Refused(n) => refused(out, n)?,
+        Ok(next) => named(out, b" past ", next as u64)?,
+        Err(n) => refused(out, n)?,
     }
     Ok(())
 }
@@ -17,11 +18,10 @@ fn outcome<W: Write>(out: &mut W, r: Skip) -> io::Result<()> {
 // The field whose tag is the first thing in `s`.
 fn skip<W: Write>(out: &mut W, label: &[u8], s: &[u8]) -> io::Result<()> {
     input(out, label, s)?;
-    let t = read_tag(s, 0);
-    match t {
-        Tag::Done => text(out, b" done")?,
-        Tag::Field { field, wire, next } => outcome(out, skip_field(s, next, field, wire))?,
-        Tag::Refused(n) => refused(out, n)?,
+    match read_tag(s, 0) {
+        Ok(None) => text(out, b" done")?,
+        Ok(Some((tag, next))) => outcome(out, skip_field(s, next, tag.field, tag.wire))?,
+        Err(n) => refused(out, n)?,
     }
     end_line(out)
 }

@@ -1,20 +1,19 @@
 // Tags (Protocol Buffers, "Message Structure"): the field number, the wire type and the place behind, the end of the message, or the refusal.
 use crate::out::{end_line, input_at, named, refused, text};
-use protobuf::tag::{Tag, read_tag};
+use protobuf::tag::read_tag;
 use std::io;
 use std::io::Write;
 
 fn tag<W: Write>(out: &mut W, label: &[u8], s: &[u8], at: usize) -> io::Result<()> {
     input_at(out, label, s, at)?;
-    let r = read_tag(s, at);
-    match r {
-        Tag::Done => text(out, b" done")?,
-        Tag::Field { field, wire, next } => {
-            named(out, b" field ", field as u64)?;
-            named(out, b", type ", wire as u64)?;
+    match read_tag(s, at) {
+        Ok(None) => text(out, b" done")?,
+        Ok(Some((tag, next))) => {
+            named(out, b" field ", tag.field as u64)?;
+            named(out, b", type ", tag.wire as u64)?;
             named(out, b", next ", next as u64)?;
         }
-        Tag::Refused(n) => refused(out, n)?,
+        Err(n) => refused(out, n)?,
     }
     end_line(out)
 }

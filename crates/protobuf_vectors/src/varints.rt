@@ -2,19 +2,18 @@
 // each signed type ("Signed Integers").
 use crate::out::{end_line, input, input_at, named, named_signed, refused, wide};
 use numbers::signed::{int32, int64, zigzag_i32, zigzag_i64};
-use protobuf::varint::{Varint, read_varint};
+use protobuf::varint::read_varint;
 use std::io;
 use std::io::Write;
 
 fn varint<W: Write>(out: &mut W, label: &[u8], s: &[u8], at: usize) -> io::Result<()> {
     input_at(out, label, s, at)?;
-    let r = read_varint(s, at);
-    match r {
-        Varint::Value { value, next } => {
+    match read_varint(s, at) {
+        Ok((value, next)) => {
             named(out, b" ", value)?;
             named(out, b", next ", next as u64)?;
         }
-        Varint::Refused(n) => refused(out, n)?,
+        Err(n) => refused(out, n)?,
     }
     end_line(out)
 }
@@ -22,14 +21,13 @@ fn varint<W: Write>(out: &mut W, label: &[u8], s: &[u8], at: usize) -> io::Resul
 // What a varint's value means in fields of type int64 and int32.
 fn twos<W: Write>(out: &mut W, label: &[u8], s: &[u8]) -> io::Result<()> {
     input(out, label, s)?;
-    let r = read_varint(s, 0);
-    match r {
-        Varint::Value { value, next: _ } => {
+    match read_varint(s, 0) {
+        Ok((value, _)) => {
             named(out, b" ", value)?;
             named_signed(out, b", int64 ", int64(value))?;
             named_signed(out, b", int32 ", wide(int32(value)))?;
         }
-        Varint::Refused(n) => refused(out, n)?,
+        Err(n) => refused(out, n)?,
     }
     end_line(out)
 }
@@ -37,14 +35,13 @@ fn twos<W: Write>(out: &mut W, label: &[u8], s: &[u8]) -> io::Result<()> {
 // What a varint's value means in fields of type sint64 and sint32.
 fn zigzag<W: Write>(out: &mut W, label: &[u8], s: &[u8]) -> io::Result<()> {
     input(out, label, s)?;
-    let r = read_varint(s, 0);
-    match r {
-        Varint::Value { value, next: _ } => {
+    match read_varint(s, 0) {
+        Ok((value, _)) => {
             named(out, b" ", value)?;
             named_signed(out, b", sint64 ", zigzag_i64(value))?;
             named_signed(out, b", sint32 ", wide(zigzag_i32(value)))?;
         }
-        Varint::Refused(n) => refused(out, n)?,
+        Err(n) => refused(out, n)?,
     }
     end_line(out)
 }

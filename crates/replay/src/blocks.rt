@@ -7,12 +7,11 @@ use crate::text::{
 use accept::check::check;
 use fields::part::Part;
 use groups::classify::{BlockType, classify_group};
-use groups::group::{DenseFound, MessageStep, WireMessageIter, dense};
-use lookup::by_number::{Got, GroupRange, get, group};
-use passes::checked::Checked;
+use groups::group::{WireMessageIter, dense};
+use lookup::by_number::{get, group};
 use protobuf::refusal::Refusal;
 use wire::record::WireBlock;
-use wire::scan::{BlockScan, scan};
+use wire::scan::scan;
 
 // The record of a scanned block.
 fn put_record(out: &mut [u8; ROOM], block: WireBlock) -> usize {
@@ -32,8 +31,8 @@ fn scan_whole(out: &mut [u8; ROOM], buffer: &mut [u8], block: usize) -> Said {
     let n = buffer.len();
     let r = scan(buffer, block);
     match r {
-        BlockScan::Refused(n) => refuse(out, 0, n),
-        BlockScan::Scanned(record) => {
+        Err(n) => refuse(out, 0, n),
+        Ok(record) => {
             let end = put_record(out, record);
             whole(put_bytes(out, end, cut(buffer, block, n)))
         }
@@ -62,8 +61,8 @@ pub(crate) fn ask_scan(
 fn check_scanned(out: &mut [u8; ROOM], s: &[u8], block: WireBlock) -> Said {
     let r = check(s, block);
     match r {
-        Checked::Accepted => whole(accept(out)),
-        Checked::Refused(n) => refuse(out, 0, n),
+        Ok(()) => whole(accept(out)),
+        Err(n) => refuse(out, 0, n),
     }
 }
 
@@ -86,8 +85,8 @@ fn behind_table(table: usize, count: usize) -> usize {
 fn check_whole(out: &mut [u8; ROOM], buffer: &mut [u8], block: usize) -> Said {
     let r = scan(buffer, block);
     match r {
-        BlockScan::Refused(n) => unscanned(out, n),
-        BlockScan::Scanned(record) => {
+        Err(n) => unscanned(out, n),
+        Ok(record) => {
             let end = behind_table(record.grouptable, record.groups);
             check_scanned(out, cut(buffer, 0, end), record)
         }
@@ -131,9 +130,9 @@ fn put_range(out: &mut [u8; ROOM], part: Part) -> Said {
 pub(crate) fn ask_get(out: &mut [u8; ROOM], s: &[u8], block: WireBlock, index: usize) -> Said {
     let r = get(s, block, index);
     match r {
-        Got::None => whole(put_sign(out, 0, b'~')),
-        Got::Refused(n) => refuse(out, 0, n),
-        Got::Text(part) => put_range(out, part),
+        Ok(None) => whole(put_sign(out, 0, b'~')),
+        Ok(Some(part)) => put_range(out, part),
+        Err(n) => refuse(out, 0, n),
     }
 }
 
@@ -141,8 +140,8 @@ pub(crate) fn ask_get(out: &mut [u8; ROOM], s: &[u8], block: WireBlock, index: u
 pub(crate) fn ask_group(out: &mut [u8; ROOM], s: &[u8], block: WireBlock, index: usize) -> Said {
     let r = group(s, block, index);
     match r {
-        GroupRange::Refused(n) => refuse(out, 0, n),
-        GroupRange::Range(part) => put_range(out, part),
+        Err(n) => refuse(out, 0, n),
+        Ok(part) => put_range(out, part),
     }
 }
 
@@ -167,8 +166,8 @@ pub(crate) fn ask_classify(out: &mut [u8; ROOM], s: &[u8]) -> Said {
 pub(crate) fn ask_densepass(out: &mut [u8; ROOM], s: &[u8], start: usize, len: usize) -> Said {
     let r = dense(s, start, len);
     match r {
-        DenseFound::Refused(n) => refuse(out, 0, n),
-        DenseFound::Found(part) => {
+        Err(n) => refuse(out, 0, n),
+        Ok(part) => {
             let end = accept(out);
             whole(put_part(out, end, part, start))
         }
@@ -202,13 +201,13 @@ pub(crate) fn ask_messages(
     let mut end = 0;
     let mut steps = 0;
     while steps < ROOM {
-        let r = place.step(s);
-        match r {
-            MessageStep::Ended { next: _ } => return end_steps(out, end),
-            MessageStep::Refused { refusal, next: _ } => return stop_steps(out, end, refusal),
-            MessageStep::Message { part, next } => {
+        let step = place.step(s);
+        match step.said {
+            Ok(None) => return end_steps(out, end),
+            Err(refusal) => return stop_steps(out, end, refusal),
+            Ok(Some(part)) => {
                 end = put_message(out, end, part, start);
-                place = next;
+                place = step.next;
             }
         }
         steps += 1;

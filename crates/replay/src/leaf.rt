@@ -3,17 +3,16 @@ use crate::text::{
     ROOM, Said, accept, end_steps, put_bool, put_number, put_signed, put_signed32, put_size,
     refuse, stop_steps, whole,
 };
-use message::field::{Field, next_field};
+use message::field::{Field, NoField, next_field};
 use numbers::signed::{int32, zigzag_i32, zigzag_i64};
-use protobuf::column::{Column, Step, next_value};
-use protobuf::varint::{Varint, read_varint};
+use protobuf::column::{Column, next_value};
+use protobuf::varint::read_varint;
 
 // The varint at a place.
 pub(crate) fn ask_varint(out: &mut [u8; ROOM], s: &[u8], at: usize) -> Said {
-    let r = read_varint(s, at);
-    match r {
-        Varint::Refused(n) => refuse(out, 0, n),
-        Varint::Value { value, next } => {
+    match read_varint(s, at) {
+        Err(n) => refuse(out, 0, n),
+        Ok((value, next)) => {
             let a = accept(out);
             let b = put_number(out, a, value);
             whole(put_size(out, b, next))
@@ -27,37 +26,23 @@ fn value_of(tag: u32, value: u64) -> u64 {
 }
 
 // A field that was read.
-fn put_field(
-    out: &mut [u8; ROOM],
-    tag: u32,
-    value: u64,
-    start: usize,
-    len: usize,
-    next: usize,
-) -> Said {
+fn put_field(out: &mut [u8; ROOM], field: Field, next: usize) -> Said {
     let a = accept(out);
-    let b = put_number(out, a, (tag / 8) as u64);
-    let c = put_number(out, b, (tag % 8) as u64);
-    let d = put_number(out, c, value_of(tag, value));
-    let e = put_size(out, d, start);
-    let f = put_size(out, e, len);
+    let b = put_number(out, a, (field.tag / 8) as u64);
+    let c = put_number(out, b, (field.tag % 8) as u64);
+    let d = put_number(out, c, value_of(field.tag, field.value));
+    let e = put_size(out, d, field.start);
+    let f = put_size(out, e, field.len);
     whole(put_size(out, f, next))
 }
 
 // The field that is due at a place. Where the message is complete there is none, and the answer is what its tag's varint gives there.
 pub(crate) fn ask_field(out: &mut [u8; ROOM], s: &[u8], at: usize) -> Said {
-    let r = next_field(s, at);
-    match r {
-        Field::Complete => ask_varint(out, s, at),
-        Field::Cut(n) => refuse(out, 0, n),
-        Field::Spoilt { tag: _, refusal } => refuse(out, 0, refusal),
-        Field::Read {
-            tag,
-            value,
-            start,
-            len,
-            next,
-        } => put_field(out, tag, value, start, len, next),
+    match next_field(s, at) {
+        Ok(None) => ask_varint(out, s, at),
+        Ok(Some((field, next))) => put_field(out, field, next),
+        Err(NoField::Cut(n)) => refuse(out, 0, n),
+        Err(NoField::Spoilt { tag: _, refusal }) => refuse(out, 0, refusal),
     }
 }
 
@@ -80,11 +65,10 @@ pub(crate) fn ask_column(out: &mut [u8; ROOM], s: &[u8]) -> Said {
     let mut end = 0;
     let mut steps = 0;
     while steps < ROOM {
-        let r = next_value(s, column);
-        match r {
-            Step::Ended => return end_steps(out, end),
-            Step::Refused { refusal, next: _ } => return stop_steps(out, end, refusal),
-            Step::Value { value, next } => {
+        match next_value(s, column) {
+            Ok(None) => return end_steps(out, end),
+            Err(refusal) => return stop_steps(out, end, refusal),
+            Ok(Some((value, next))) => {
                 end = put_value(out, end, value);
                 column = next;
             }

@@ -1,13 +1,12 @@
 // The questions on an element's message at a place in the bytes: Node, Way, Relation, DenseNodes, DenseInfo and Info.
-use crate::text::{
-    ROOM, Said, accept, put_bool, put_part, put_sign, put_signed, put_signed32, refuse, whole,
-};
-use views::dense_info::{DenseInfoParse, WireDenseInfo};
-use views::dense_nodes::{DenseNodesParse, WireDenseNodes};
-use views::info::{Flag, InfoParse, Number32, Number64, WireInfo};
-use views::node::{NodeParse, WireNode};
-use views::relation::{RelationParse, WireRelation};
-use views::way::{WayParse, WireWay};
+use crate::text::{ROOM, Said, accept, put_bool, put_part, put_sign, put_signed, refuse, whole};
+use views::dense_info::WireDenseInfo;
+use views::dense_nodes::WireDenseNodes;
+use views::info::WireInfo;
+use views::node::WireNode;
+use views::relation::WireRelation;
+use views::view::View;
+use views::way::WireWay;
 
 fn put_node(out: &mut [u8; ROOM], v: WireNode, base: usize) -> Said {
     let keys = v.keys;
@@ -25,8 +24,8 @@ fn put_node(out: &mut [u8; ROOM], v: WireNode, base: usize) -> Said {
 pub(crate) fn ask_node(out: &mut [u8; ROOM], s: &[u8], start: usize, len: usize) -> Said {
     let r = WireNode::parse(s, start, len);
     match r {
-        NodeParse::Refused(n) => refuse(out, 0, n),
-        NodeParse::Parsed(v) => put_node(out, v, start),
+        Err(n) => refuse(out, 0, n),
+        Ok(v) => put_node(out, v, start),
     }
 }
 
@@ -52,8 +51,8 @@ fn put_way(out: &mut [u8; ROOM], v: WireWay, base: usize) -> Said {
 pub(crate) fn ask_way(out: &mut [u8; ROOM], s: &[u8], start: usize, len: usize) -> Said {
     let r = WireWay::parse(s, start, len);
     match r {
-        WayParse::Refused(n) => refuse(out, 0, n),
-        WayParse::Parsed(v) => put_way(out, v, start),
+        Err(n) => refuse(out, 0, n),
+        Ok(v) => put_way(out, v, start),
     }
 }
 
@@ -77,8 +76,8 @@ fn put_relation(out: &mut [u8; ROOM], v: WireRelation, base: usize) -> Said {
 pub(crate) fn ask_relation(out: &mut [u8; ROOM], s: &[u8], start: usize, len: usize) -> Said {
     let r = WireRelation::parse(s, start, len);
     match r {
-        RelationParse::Refused(n) => refuse(out, 0, n),
-        RelationParse::Parsed(v) => put_relation(out, v, start),
+        Err(n) => refuse(out, 0, n),
+        Ok(v) => put_relation(out, v, start),
     }
 }
 
@@ -99,8 +98,8 @@ fn put_dense(out: &mut [u8; ROOM], v: WireDenseNodes, base: usize) -> Said {
 pub(crate) fn ask_dense(out: &mut [u8; ROOM], s: &[u8], start: usize, len: usize) -> Said {
     let r = WireDenseNodes::parse(s, start, len);
     match r {
-        DenseNodesParse::Refused(n) => refuse(out, 0, n),
-        DenseNodesParse::Parsed(v) => put_dense(out, v, start),
+        Err(n) => refuse(out, 0, n),
+        Ok(v) => put_dense(out, v, start),
     }
 }
 
@@ -123,55 +122,41 @@ fn put_dense_info(out: &mut [u8; ROOM], v: WireDenseInfo, base: usize) -> Said {
 pub(crate) fn ask_dense_info(out: &mut [u8; ROOM], s: &[u8], start: usize, len: usize) -> Said {
     let r = WireDenseInfo::parse(s, start, len);
     match r {
-        DenseInfoParse::Refused(n) => refuse(out, 0, n),
-        DenseInfoParse::Parsed(v) => put_dense_info(out, v, start),
+        Err(n) => refuse(out, 0, n),
+        Ok(v) => put_dense_info(out, v, start),
     }
 }
 
-fn put_number64(out: &mut [u8; ROOM], at: usize, x: Number64) -> usize {
-    if x.present {
-        put_signed(out, at, x.value)
-    } else {
-        put_sign(out, at, b'~')
+// A number where it was read, `~` where it was not.
+fn put_read(out: &mut [u8; ROOM], at: usize, x: Option<i64>) -> usize {
+    match x {
+        Some(n) => put_signed(out, at, n),
+        None => put_sign(out, at, b'~'),
     }
 }
 
-fn put_number32(out: &mut [u8; ROOM], at: usize, x: Number32) -> usize {
-    if x.present {
-        put_signed32(out, at, x.value)
-    } else {
-        put_sign(out, at, b'~')
-    }
-}
-
-fn put_flag(out: &mut [u8; ROOM], at: usize, x: Flag) -> usize {
-    if x.present {
-        put_bool(out, at, x.value)
-    } else {
-        put_sign(out, at, b'~')
+// The same of a flag.
+fn put_flag(out: &mut [u8; ROOM], at: usize, x: Option<bool>) -> usize {
+    match x {
+        Some(flag) => put_bool(out, at, flag),
+        None => put_sign(out, at, b'~'),
     }
 }
 
 fn put_info(out: &mut [u8; ROOM], v: WireInfo) -> Said {
-    let version = v.version;
-    let timestamp = v.timestamp;
-    let changeset = v.changeset;
-    let uid = v.uid;
-    let user = v.user;
-    let visible = v.visible;
     let a = accept(out);
-    let b = put_number32(out, a, version);
-    let c = put_number64(out, b, timestamp);
-    let d = put_number64(out, c, changeset);
-    let e = put_number32(out, d, uid);
-    let f = put_number32(out, e, user);
-    whole(put_flag(out, f, visible))
+    let b = put_read(out, a, v.version.map(i64::from));
+    let c = put_read(out, b, v.timestamp);
+    let d = put_read(out, c, v.changeset);
+    let e = put_read(out, d, v.uid.map(i64::from));
+    let f = put_read(out, e, v.user.map(i64::from));
+    whole(put_flag(out, f, v.visible))
 }
 
 pub(crate) fn ask_info(out: &mut [u8; ROOM], s: &[u8], start: usize, len: usize) -> Said {
     let r = WireInfo::parse(s, start, len);
     match r {
-        InfoParse::Refused(n) => refuse(out, 0, n),
-        InfoParse::Parsed(v) => put_info(out, v),
+        Err(n) => refuse(out, 0, n),
+        Ok(v) => put_info(out, v),
     }
 }

@@ -10,8 +10,9 @@ use elements::positions::{nano_lat, nano_lon};
 use elements::references::WayRefIter;
 use elements::tags::TagIter;
 use fields::part::Part;
-use views::info::{Flag, InfoParse, Number32, Number64, WireInfo};
+use views::info::WireInfo;
 use views::node::WireNode;
+use views::view::View;
 use wire::record::WireBlock;
 
 fn pass_head(text: &[u8], at: usize, letter: u8, group: usize, id: i64) -> usize {
@@ -54,37 +55,29 @@ fn pass_dense_node(text: &[u8], at: usize, block: WireBlock, group: usize, d: De
     pass_node_info(text, pass_position(text, head, block, d.lat, d.lon), info)
 }
 
-fn pass_number64(text: &[u8], at: usize, x: Number64) -> usize {
-    if x.present {
-        pass_signed(text, at, x.value)
-    } else {
-        pass_sign(text, at, b'~')
+// A number where it was read, `~` where it was not.
+fn pass_read(text: &[u8], at: usize, x: Option<i64>) -> usize {
+    match x {
+        Some(n) => pass_signed(text, at, n),
+        None => pass_sign(text, at, b'~'),
     }
 }
 
-fn pass_number32(text: &[u8], at: usize, x: Number32) -> usize {
-    if x.present {
-        pass_signed32(text, at, x.value)
-    } else {
-        pass_sign(text, at, b'~')
-    }
-}
-
-fn pass_flag(text: &[u8], at: usize, x: Flag) -> usize {
-    if x.present {
-        pass_bool(text, at, x.value)
-    } else {
-        pass_sign(text, at, b'~')
+// The same of a flag.
+fn pass_flag(text: &[u8], at: usize, x: Option<bool>) -> usize {
+    match x {
+        Some(flag) => pass_bool(text, at, flag),
+        None => pass_sign(text, at, b'~'),
     }
 }
 
 // What the view of an Info reads, behind a 0.
 fn pass_viewed(text: &[u8], at: usize, v: WireInfo) -> usize {
-    let a = pass_number32(text, pass_sign(text, at, b'0'), v.version);
-    let b = pass_number64(text, a, v.timestamp);
-    let c = pass_number64(text, b, v.changeset);
-    let d = pass_number32(text, c, v.uid);
-    let e = pass_number32(text, d, v.user);
+    let a = pass_read(text, pass_sign(text, at, b'0'), v.version.map(i64::from));
+    let b = pass_read(text, a, v.timestamp);
+    let c = pass_read(text, b, v.changeset);
+    let d = pass_read(text, c, v.uid.map(i64::from));
+    let e = pass_read(text, d, v.user.map(i64::from));
     pass_flag(text, e, v.visible)
 }
 
@@ -93,8 +86,8 @@ fn pass_info(text: &[u8], at: usize, s: &[u8], info: Part) -> usize {
     let place = pass_part(text, at, info);
     let r = WireInfo::parse(s, info.start, info.len);
     match r {
-        InfoParse::Refused(n) => pass_refusal(text, place, n),
-        InfoParse::Parsed(v) => pass_viewed(text, place, v),
+        Err(n) => pass_refusal(text, place, n),
+        Ok(v) => pass_viewed(text, place, v),
     }
 }
 

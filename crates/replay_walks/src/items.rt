@@ -7,7 +7,7 @@ use elements::members::{MemberId, RelMember, RelMemberIter, RelMemberStep, role_
 use elements::references::{WayRefIter, WayRefStep};
 use elements::tags::{RawTag, RawTagStep, Tag, TagIter, TagIterStep};
 use fields::part::{NONE, Part, bytes_of};
-use lookup::by_number::{Got, get};
+use lookup::by_number::get;
 use wire::record::WireBlock;
 
 // A tag by its two texts.
@@ -40,9 +40,9 @@ fn pass_tags(text: &[u8], at: usize, s: &[u8], block: WireBlock, tags: TagIter) 
 fn text_of(s: &[u8], block: WireBlock, number: u64) -> Part {
     let r = get(s, block, number as usize);
     match r {
-        Got::Text(part) => part,
-        Got::None => NONE,
-        Got::Refused(_) => NONE,
+        Ok(Some(part)) => part,
+        Ok(None) => NONE,
+        Err(_) => NONE,
     }
 }
 
@@ -128,9 +128,9 @@ pub(crate) fn pass_refs(text: &[u8], at: usize, s: &[u8], refs: WayRefIter) -> u
 fn pass_role(text: &[u8], at: usize, s: &[u8], block: WireBlock, role: i32) -> usize {
     let r = role_text(s, block, role);
     match r {
-        Got::Text(part) => pass_bytes(text, at, bytes_of(s, part)),
-        Got::None => pass_sign(text, at, b'~'),
-        Got::Refused(n) => pass_stop(text, at, n),
+        Ok(Some(part)) => pass_bytes(text, at, bytes_of(s, part)),
+        Ok(None) => pass_sign(text, at, b'~'),
+        Err(n) => pass_stop(text, at, n),
     }
 }
 

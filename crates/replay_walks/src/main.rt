@@ -22,7 +22,7 @@ use std::io::{Read, Write};
 use steps::{How, Passed, pass_walk};
 use tally::{Counts, Outcome, Tally, counted, more, nothing, print, print_tally};
 use wire::record::WireBlock;
-use wire::scan::{BlockScan, scan};
+use wire::scan::scan;
 use words::{NOWHERE, pass_refusal, pass_text};
 
 // The most bytes of the list.
@@ -92,10 +92,8 @@ fn block_and_tables(buffer: &[u8], block: WireBlock) -> &[u8] {
 fn walk_block(text: &[u8], buffer: &mut [u8], len: usize, full: bool) -> Outcome {
     let r = scan(buffer, len);
     match r {
-        BlockScan::Refused(n) => unscanned(text, n),
-        BlockScan::Scanned(block) => {
-            walk_both(text, block_and_tables(buffer, block), block, full)
-        }
+        Err(n) => unscanned(text, n),
+        Ok(block) => { walk_both(text, block_and_tables(buffer, block), block, full) }
     }
 }
 

@@ -1,7 +1,7 @@
 -- Worked values: what is said of concrete blocks as scans leave them, one row for each clause of what two listings are compared by, and of
 -- buffers and records that no scan left. They are proved by computing, so a definition that is changed breaks the row of its clause, whatever
 -- the code does. Bytes are hexadecimal.
-use Rattle.std.specs.Prelude.{ℕ, ◌≡◌, refl, List, [], ◌∷◌, ◌++◌, Bool, true, false, length, replicate, pos}
+use Rattle.std.specs.Prelude.{ℕ, ◌≡◌, refl, List, [], ◌∷◌, ◌++◌, Bool, true, false, length, replicate, pos, Ok, Err}
 use Rattle.numbers.specs.Little.{little, bytes, number_at, written}
 use Rattle.numbers.specs.Signed.{signed, twos, unzigzag, zigzag, residue, wrap}
 use Rattle.protobuf.specs.declared.refusal.Refusal.TheVariants.{VarintCut, Counts, Outside}
@@ -12,7 +12,7 @@ use Rattle.message.specs.Payload.{raw_varint, fixed, counted, length_delimited, 
 use Rattle.protobuf.specs.Stream.{unrolled, mapped}
 use Rattle.message.specs.Message.{field_at, message_from}
 use Rattle.protobuf.specs.Column.{value_at, column_from, sums_from}
-use Rattle.fields.specs.Outcome.{Outcome, kept, refused, onward, each}
+use Rattle.fields.specs.Outcome.{Outcome, onward, each}
 use Rattle.fields.specs.Parts.{parts_of, messages_of}
 use Rattle.fields.specs.View.{column_part, info_part, put, store, view_from, view, view_in}
 use Rattle.groups.specs.Group.{dense_from, dense_in}
@@ -114,40 +114,40 @@ lost_by x y =
 
 pub record Worked : Type 0 where
   -- the same
-  pub itself : listed plain plain ≡ kept true
-  pub worked-twin : listed block.first block.twin ≡ kept true
-  pub other-metadata : listed plain (of (node 0x02 2 ++ some_dense_info) (way 0x02 ++ some_info) (relation 1 0 ++ some_info)) ≡ kept true
-  pub other_date_granularity : listed plain (plain ++ 0x90 ∷ 0x01 ∷ 0x05 ∷ []) ≡ kept true
-  pub unknown-field : listed plain (plain ++ 0xF0 ∷ 0x01 ∷ 0x01 ∷ []) ≡ kept true
-  pub longer_spelling : listed plain (of (node 0x02 2) (0x08 ∷ 0x87 ∷ 0x00 ∷ keys ∷ 2 ∷ 0x81 ∷ 0x00 ∷ vals ∷ 1 ∷ 2 ∷ refs ∷ 2 ∷ 0x02 ∷ 0x02 ∷ []) (relation 1 0)) ≡ kept true
+  pub itself : listed plain plain ≡ Ok true
+  pub worked-twin : listed block.first block.twin ≡ Ok true
+  pub other-metadata : listed plain (of (node 0x02 2 ++ some_dense_info) (way 0x02 ++ some_info) (relation 1 0 ++ some_info)) ≡ Ok true
+  pub other_date_granularity : listed plain (plain ++ 0x90 ∷ 0x01 ∷ 0x05 ∷ []) ≡ Ok true
+  pub unknown-field : listed plain (plain ++ 0xF0 ∷ 0x01 ∷ 0x01 ∷ []) ≡ Ok true
+  pub longer_spelling : listed plain (of (node 0x02 2) (0x08 ∷ 0x87 ∷ 0x00 ∷ keys ∷ 2 ∷ 0x81 ∷ 0x00 ∷ vals ∷ 1 ∷ 2 ∷ refs ∷ 2 ∷ 0x02 ∷ 0x02 ∷ []) (relation 1 0)) ≡ Ok true
   -- a text is its bytes, whatever its number
-  pub text_by_another_number : listed (table 0x76 ++ in_group (in_dense (node 0x02 2))) (table 0x76 ++ in_group (in_dense (node 0x02 3))) ≡ kept true
-  pub role-by_another_number : listed (table 0x6B ++ in_group (in_relation (relation 1 0))) (table 0x6B ++ in_group (in_relation (relation 3 0))) ≡ kept true
+  pub text_by_another_number : listed (table 0x76 ++ in_group (in_dense (node 0x02 2))) (table 0x76 ++ in_group (in_dense (node 0x02 3))) ≡ Ok true
+  pub role-by_another_number : listed (table 0x6B ++ in_group (in_relation (relation 1 0))) (table 0x6B ++ in_group (in_relation (relation 3 0))) ≡ Ok true
   -- one difference each
-  pub tag_text : listed plain (of (node 0x02 3) (way 0x02) (relation 1 0)) ≡ kept false
-  pub position : listed plain (of (node 0x04 2) (way 0x02) (relation 1 0)) ≡ kept false
-  pub reference : listed plain (of (node 0x02 2) (way 0x04) (relation 1 0)) ≡ kept false
-  pub role : listed plain (of (node 0x02 2) (way 0x02) (relation 2 0)) ≡ kept false
-  pub no-role-and_an_empty-one : listed (of (node 0x02 2) (way 0x02) (relation 9 0)) (of (node 0x02 2) (way 0x02) (relation 0 0)) ≡ kept false
-  pub member_type : listed plain (of (node 0x02 2) (way 0x02) (relation 1 1)) ≡ kept false
-  pub granularity : listed plain (plain ++ 0x88 ∷ 0x01 ∷ 0x32 ∷ []) ≡ kept false
-  pub latitude_offset : listed plain (plain ++ 0x98 ∷ 0x01 ∷ 0x01 ∷ []) ≡ kept false
-  pub group-count : listed plain (plain ++ in_group []) ≡ kept false
-  pub one-element-more : listed plain (table 0x77 ++ in_group (in_dense (node 0x02 2) ++ in_way (way 0x02) ++ in_relation (relation 1 0) ++ in_relation (relation 1 0))) ≡ kept false
-  pub one-element_less : listed plain (table 0x77 ++ in_group (in_dense (node 0x02 2) ++ in_way (way 0x02))) ≡ kept false
-  pub in_another_group : listed (table 0x77 ++ in_group (in_way (way 0x02)) ++ in_group []) (table 0x77 ++ in_group [] ++ in_group (in_way (way 0x02))) ≡ kept false
+  pub tag_text : listed plain (of (node 0x02 3) (way 0x02) (relation 1 0)) ≡ Ok false
+  pub position : listed plain (of (node 0x04 2) (way 0x02) (relation 1 0)) ≡ Ok false
+  pub reference : listed plain (of (node 0x02 2) (way 0x04) (relation 1 0)) ≡ Ok false
+  pub role : listed plain (of (node 0x02 2) (way 0x02) (relation 2 0)) ≡ Ok false
+  pub no-role-and_an_empty-one : listed (of (node 0x02 2) (way 0x02) (relation 9 0)) (of (node 0x02 2) (way 0x02) (relation 0 0)) ≡ Ok false
+  pub member_type : listed plain (of (node 0x02 2) (way 0x02) (relation 1 1)) ≡ Ok false
+  pub granularity : listed plain (plain ++ 0x88 ∷ 0x01 ∷ 0x32 ∷ []) ≡ Ok false
+  pub latitude_offset : listed plain (plain ++ 0x98 ∷ 0x01 ∷ 0x01 ∷ []) ≡ Ok false
+  pub group-count : listed plain (plain ++ in_group []) ≡ Ok false
+  pub one-element-more : listed plain (table 0x77 ++ in_group (in_dense (node 0x02 2) ++ in_way (way 0x02) ++ in_relation (relation 1 0) ++ in_relation (relation 1 0))) ≡ Ok false
+  pub one-element_less : listed plain (table 0x77 ++ in_group (in_dense (node 0x02 2) ++ in_way (way 0x02))) ≡ Ok false
+  pub in_another_group : listed (table 0x77 ++ in_group (in_way (way 0x02)) ++ in_group []) (table 0x77 ++ in_group [] ++ in_group (in_way (way 0x02))) ≡ Ok false
   -- the check's numbers: 14 of either, then the first's, then the second's
-  pub first-refused : listed uneven plain ≡ refused Counts
-  pub second-refused : listed plain cut_refs ≡ refused VarintCut
-  pub first-before-second : listed uneven cut_refs ≡ refused Counts
-  pub in_the_other_order : listed cut_refs uneven ≡ refused VarintCut
-  pub record-outside-first : beside uneven [] (place 1 0 0 0 0) ≡ refused Outside
-  pub entry-outside-first : beside uneven (entry 0 255) (place 0 0 0 1 0) ≡ refused Outside
-  pub outside-before_a_number : same_listing [] (place 1 0 0 0 0) (uneven ++ entry 2 5) (place 7 0 7 1 7) ≡ refused Outside
+  pub first-refused : listed uneven plain ≡ Err Counts
+  pub second-refused : listed plain cut_refs ≡ Err VarintCut
+  pub first-before-second : listed uneven cut_refs ≡ Err Counts
+  pub in_the_other_order : listed cut_refs uneven ≡ Err VarintCut
+  pub record-outside-first : beside uneven [] (place 1 0 0 0 0) ≡ Err Outside
+  pub entry-outside-first : beside uneven (entry 0 255) (place 0 0 0 1 0) ≡ Err Outside
+  pub outside-before_a_number : same_listing [] (place 1 0 0 0 0) (uneven ++ entry 2 5) (place 7 0 7 1 7) ≡ Err Outside
   -- behind the checks a text's 14 can still be met, in a buffer that no scan left, since the check looks no string up: it is met in step
-  pub text_outside : lost_by (lost 7 lost_tag) (lost 7 lost_tag) ≡ refused Outside
-  pub text_outside-at_the_others-end : lost_by (lost 7 []) (lost 7 lost_tag) ≡ refused Outside
-  pub difference_before_it : lost_by (lost 7 lost_tag) (lost 8 lost_tag) ≡ kept false
+  pub text_outside : lost_by (lost 7 lost_tag) (lost 7 lost_tag) ≡ Err Outside
+  pub text_outside-at_the_others-end : lost_by (lost 7 []) (lost 7 lost_tag) ≡ Err Outside
+  pub difference_before_it : lost_by (lost 7 lost_tag) (lost 8 lost_tag) ≡ Ok false
 
 pub worked : Worked
 unfolding bytes entries tables_stage strings_stage fields_stage scanned and_then digits varint legal tag tag_at raw_varint fixed counted length_delimited value_by field_in fields_of group_by payload unrolled mapped field_at message_from signed twos unzigzag zigzag residue wrap value_at column_from sums_from onward each column_part info_part put store view_from view view_in dense_from dense_in parts_of messages_of column_in count_of take_pairs dense_pairs all agreed element_by check_dense check_group little number_at get_at group_at parts_at checked_in ahead start_of zip pairs_of found_tags raw_tags_from tags_by members_by nodes_of viewed_all ◌then◌ groups_from tested_from same_text same_stream same_walks same_listing

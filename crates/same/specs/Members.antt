@@ -1,7 +1,7 @@
 -- A member's id as numbers, and two roles by what is found of their texts.
-use Rattle.std.specs.Prelude.{Bool, pos}
+use Rattle.std.specs.Prelude.{Bool, pos, Ok}
 use Rattle.std.proofs.Math.Option.{Option}
-use Rattle.fields.specs.Outcome.{Outcome, kept, onward}
+use Rattle.fields.specs.Outcome.{Outcome, onward}
 use Rattle.block.specs.Strings.{Text}
 use Rattle.elements.specs.declared.members.MemberId.{MemberId}
 use Rattle.elements.specs.declared.members.MemberId.TheVariants as id
@@ -17,4 +17,4 @@ key_of (id.Unknown kind i) = record { case = 3; kind = kind; id = i }
 
 -- the first's number, then the second's
 abbrev pub same_roles : Outcome (Option Text) → Outcome (Option Text) → Outcome Bool
-same_roles x y = onward x λ t. onward y λ u. kept (same_role t u)
+same_roles x y = onward x λ t. onward y λ u. Ok (same_role t u)

@@ -1,6 +1,6 @@
 -- What a step says, without what it hands out, and what two steps come to where not both hand out something.
-use Rattle.std.specs.Prelude.{Bool, true, false}
-use Rattle.fields.specs.Outcome.{Outcome, kept, refused}
+use Rattle.std.specs.Prelude.{Bool, true, false, Ok, Err}
+use Rattle.fields.specs.Outcome.{Outcome}
 use Rattle.elements.specs.declared.tags.TagIterStep.{TagIterStep}
 use Rattle.elements.specs.declared.tags.TagIterStep.TheVariants as tag
 use Rattle.elements.specs.declared.references.WayRefStep.{WayRefStep}
@@ -27,10 +27,10 @@ member_turn (member.Refused r next) = turn.Refused r
 
 -- the first's number, then the second's; where both hand out something there is no difference yet
 abbrev pub ends_of : Turn → Turn → Outcome Bool
-ends_of (turn.Refused r) y = refused r
-ends_of turn.Ended (turn.Refused r) = refused r
-ends_of turn.Ended turn.Ended = kept true
-ends_of turn.Ended turn.Hands = kept false
-ends_of turn.Hands (turn.Refused r) = refused r
-ends_of turn.Hands turn.Ended = kept false
-ends_of turn.Hands turn.Hands = kept true
+ends_of (turn.Refused r) y = Err r
+ends_of turn.Ended (turn.Refused r) = Err r
+ends_of turn.Ended turn.Ended = Ok true
+ends_of turn.Ended turn.Hands = Ok false
+ends_of turn.Hands (turn.Refused r) = Err r
+ends_of turn.Hands turn.Ended = Ok false
+ends_of turn.Hands turn.Hands = Ok true

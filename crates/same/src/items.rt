@@ -4,10 +4,8 @@ ghost use Rattle.elements.specs.Element.{item_of};
 ghost use Rattle.fields.specs.declared.part.Part.{Part as Range};
 ghost use Rattle.lookup.specs.Lookup.{is_record_inside};
 ghost use Rattle.walk.specs.Same.{same_item, same_element};
-ghost use Rattle.same.specs.Compared.{compared_of};
 ghost use Rattle.same.specs.Heads.{head_of, same_heads, found_by};
 
-use crate::compared::Compared;
 use crate::members::same_members;
 use crate::references::same_refs;
 use crate::tags::same_tags;
@@ -16,6 +14,7 @@ use elements::element::Element;
 use elements::members::RelMemberIter;
 use elements::references::WayRefIter;
 use elements::tags::TagIter;
+use protobuf::refusal::Refusal;
 use wire::record::WireBlock;
 
 // What is known of an element without a reader: its group, a number for its kind, its id, and its raw position, 0 and 0 where it has none.
@@ -90,18 +89,18 @@ fn same_item(
     second: &[u8],
     b: WireBlock,
     f: Element,
-) -> Compared
+) -> Result<bool, Refusal>
     requires { (is_record_inside first.now a ≡ true) × (is_record_inside second.now b ≡ true) }
-    ensures { compared_of result ≡ same_item first.now a second.now b (item_of first.now e) (item_of second.now f) }
+    ensures { result ≡ same_item first.now a second.now b (item_of first.now e) (item_of second.now f) }
 {
-    let tags = same_tags(first, a, TagIter::new(e), second, b, TagIter::new(f));
-    let Compared::Same = tags else {
-        return tags;
-    };
-    let references = same_refs(first, WayRefIter::new(e), second, WayRefIter::new(f));
-    let Compared::Same = references else {
-        return references;
-    };
+    let tags = same_tags(first, a, TagIter::new(e), second, b, TagIter::new(f))?;
+    if !tags {
+        return Ok(false);
+    }
+    let references = same_refs(first, WayRefIter::new(e), second, WayRefIter::new(f))?;
+    if !references {
+        return Ok(false);
+    }
     same_members(
         first,
         a,
@@ -122,12 +121,12 @@ pub(crate) fn same_element(
     b: WireBlock,
     other: usize,
     f: Element,
-) -> Compared
+) -> Result<bool, Refusal>
     requires { (is_record_inside first.now a ≡ true) × (is_record_inside second.now b ≡ true) }
-    ensures { (m n : Range) → compared_of result ≡ same_element first.now a second.now b (found_by first.now group m e) (found_by second.now other n f) }
+    ensures { (m n : Range) → result ≡ same_element first.now a second.now b (found_by first.now group m e) (found_by second.now other n f) }
 {
     if !same_head(head_of(group, e), head_of(other, f)) {
-        return Compared::Differ;
+        return Ok(false);
     }
     same_item(first, a, e, second, b, f)
 }

@@ -2,7 +2,6 @@
 // refuses what the check refuses of either block, and 14 of either before any other number.
 #![tactic(auto)]
 
-pub mod compared;
 mod items;
 pub mod listing;
 mod members;

@@ -3,16 +3,14 @@ ghost use Rattle.std.specs.Prelude.{◌≡◌};
 ghost use Rattle.elements.specs.Members.{members_from, role_at};
 ghost use Rattle.walk.specs.Shows.{text_of, id_of};
 ghost use Rattle.walk.specs.Same.{same_member_id, same_member, same_stream};
-ghost use Rattle.same.specs.Compared.{compared_of};
 ghost use Rattle.same.specs.Turns.{member_turn};
 ghost use Rattle.same.specs.Members.{key_of, same_roles};
 
-use crate::compared::{Compared, decided};
 use crate::texts::same_text;
 use crate::turns::{Turn, ends};
 use crate::values::{same_i32, same_i64};
 use elements::members::{MemberId, RelMember, RelMemberIter, RelMemberStep, role_text};
-use lookup::by_number::Got;
+use protobuf::refusal::Refusal;
 use wire::record::WireBlock;
 
 // A member's id as numbers: its case, the type where that is unknown, and the id.
@@ -66,22 +64,23 @@ fn same_member_id(x: MemberId, y: MemberId) -> bool
 }
 
 // The texts of two roles: the first's number, then the second's. None is another thing than an empty text.
-fn same_role(first: &[u8], a: WireBlock, x: i32, second: &[u8], b: WireBlock, y: i32) -> Compared
-    ensures { compared_of result ≡ same_roles (text_of first.now (role_at first.now a x)) (text_of second.now (role_at second.now b y)) }
+fn same_role(
+    first: &[u8],
+    a: WireBlock,
+    x: i32,
+    second: &[u8],
+    b: WireBlock,
+    y: i32,
+) -> Result<bool, Refusal>
+    ensures { result ≡ same_roles (text_of first.now (role_at first.now a x)) (text_of second.now (role_at second.now b y)) }
 {
-    let p = role_text(first, a, x);
-    let q = role_text(second, b, y);
+    let p = role_text(first, a, x)?;
+    let q = role_text(second, b, y)?;
     match p {
-        Got::Refused(n) => Compared::Refused(n),
-        Got::None => match q {
-            Got::Refused(n) => Compared::Refused(n),
-            Got::None => Compared::Same,
-            Got::Text(_) => Compared::Differ,
-        },
-        Got::Text(t) => match q {
-            Got::Refused(n) => Compared::Refused(n),
-            Got::None => Compared::Differ,
-            Got::Text(u) => decided(same_text(first, t, second, u)),
+        None => Ok(q.is_none()),
+        Some(t) => match q {
+            None => Ok(false),
+            Some(u) => Ok(same_text(first, t, second, u)),
         },
     }
 }
@@ -94,16 +93,16 @@ fn same_member(
     second: &[u8],
     b: WireBlock,
     y: RelMember,
-) -> Compared
-    ensures { compared_of result ≡ same_member first.now a second.now b x y }
+) -> Result<bool, Refusal>
+    ensures { result ≡ same_member first.now a second.now b x y }
 {
-    let roles = same_role(first, a, x.role, second, b, y.role);
-    let Compared::Same = roles else {
-        return roles;
-    };
+    let roles = same_role(first, a, x.role, second, b, y.role)?;
+    if !roles {
+        return Ok(false);
+    }
     let id = x.id;
     let other = y.id;
-    decided(same_member_id(id, other))
+    Ok(same_member_id(id, other))
 }
 
 // What a step says, without its member.
@@ -126,8 +125,8 @@ pub(crate) fn same_members(
     second: &[u8],
     b: WireBlock,
     y: RelMemberIter,
-) -> Compared
-    ensures { compared_of result ≡ same_stream (same_member first.now a second.now b) (members_from first.now a x) (members_from second.now b y) }
+) -> Result<bool, Refusal>
+    ensures { result ≡ same_stream (same_member first.now a second.now b) (members_from first.now a x) (members_from second.now b y) }
 {
     let mut here = x;
     let mut there = y;
@@ -144,10 +143,10 @@ pub(crate) fn same_members(
         else {
             return ends(Turn::Hands, turn(q));
         };
-        let compared = same_member(first, a, member, second, b, other);
-        let Compared::Same = compared else {
-            return compared;
-        };
+        let same = same_member(first, a, member, second, b, other)?;
+        if !same {
+            return Ok(false);
+        }
         here = next;
         there = behind;
     }

@@ -1,15 +1,13 @@
 // The references of two ways in step.
-ghost use Rattle.std.specs.Prelude.{◌≡◌};
+ghost use Rattle.std.specs.Prelude.{◌≡◌, Ok};
 ghost use Rattle.elements.specs.References.{refs_from};
-ghost use Rattle.fields.specs.Outcome.{kept};
 ghost use Rattle.walk.specs.Same.{same_number, same_stream};
-ghost use Rattle.same.specs.Compared.{compared_of};
 ghost use Rattle.same.specs.Turns.{ref_turn};
 
-use crate::compared::Compared;
 use crate::turns::{Turn, ends};
 use crate::values::same_i64;
 use elements::references::{WayRefIter, WayRefStep};
+use protobuf::refusal::Refusal;
 
 // What a step says, without its reference.
 fn turn(step: WayRefStep) -> Turn
@@ -24,8 +22,13 @@ fn turn(step: WayRefStep) -> Turn
 
 // The references that two states have ahead: the first's number, then the second's, where a step meets one; else whether they are the same,
 // one by one, and end together.
-pub(crate) fn same_refs(first: &[u8], x: WayRefIter, second: &[u8], y: WayRefIter) -> Compared
-    ensures { compared_of result ≡ same_stream (λ i j. kept (same_number i j)) (refs_from first.now x) (refs_from second.now y) }
+pub(crate) fn same_refs(
+    first: &[u8],
+    x: WayRefIter,
+    second: &[u8],
+    y: WayRefIter,
+) -> Result<bool, Refusal>
+    ensures { result ≡ same_stream (λ i j. Ok (same_number i j)) (refs_from first.now x) (refs_from second.now y) }
 {
     let mut here = x;
     let mut there = y;
@@ -43,7 +46,7 @@ pub(crate) fn same_refs(first: &[u8], x: WayRefIter, second: &[u8], y: WayRefIte
             return ends(Turn::Hands, turn(q));
         };
         if !same_i64(id, other) {
-            return Compared::Differ;
+            return Ok(false);
         }
         here = next;
         there = behind;

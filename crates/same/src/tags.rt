@@ -2,14 +2,13 @@
 ghost use Rattle.std.specs.Prelude.{◌≡◌};
 ghost use Rattle.elements.specs.Tags.{tags_from};
 ghost use Rattle.walk.specs.Same.{same_tag, same_stream};
-ghost use Rattle.same.specs.Compared.{compared_of};
 ghost use Rattle.same.specs.Turns.{tag_turn};
 ghost use Rattle.same.specs.Tags.{TagStands, same_texts};
 
-use crate::compared::Compared;
 use crate::texts::same_text;
 use crate::turns::{Turn, ends};
 use elements::tags::{Tag, TagIter, TagIterStep};
+use protobuf::refusal::Refusal;
 use wire::record::WireBlock;
 
 // Whether two tags have the same key and the same value, where their texts stand inside.
@@ -43,8 +42,8 @@ pub(crate) fn same_tags(
     second: &[u8],
     b: WireBlock,
     y: TagIter,
-) -> Compared
-    ensures { compared_of result ≡ same_stream (same_tag first.now a second.now b) (tags_from first.now a x) (tags_from second.now b y) }
+) -> Result<bool, Refusal>
+    ensures { result ≡ same_stream (same_tag first.now a second.now b) (tags_from first.now a x) (tags_from second.now b y) }
 {
     let mut here = x;
     let mut there = y;
@@ -62,7 +61,7 @@ pub(crate) fn same_tags(
             return ends(Turn::Hands, turn(q));
         };
         if !same_tag(first, tag, second, other) {
-            return Compared::Differ;
+            return Ok(false);
         }
         here = next;
         there = behind;

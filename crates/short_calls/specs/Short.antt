@@ -1,6 +1,5 @@
 -- What the short way of a call tests: a record in its slice, inside the buffer, and in it the group and the message of dense nodes.
-use Rattle.std.specs.Prelude.{ℕ, ◌+◌, ◌^◌, ◌<◌, ◌≡◌, List, true, length, leb}
-use Rattle.fields.specs.Outcome.{kept}
+use Rattle.std.specs.Prelude.{ℕ, ◌+◌, ◌^◌, ◌<◌, ◌≡◌, List, true, length, leb, Ok}
 use Rattle.wire.specs.declared.record.WireBlock.{WireBlock}
 use Rattle.lookup.specs.Lookup.{is_record_inside}
 use Rattle.walk.specs.declared.state.DenseNodeIter.{DenseNodeIter}
@@ -20,7 +19,7 @@ pub record NumbersHeld (d : DenseNodeIter) : Type 0 where
 
 pub record PlaceInside (s rec : List ℕ) (d : DenseNodeIter) : Type 0 where
   pub block : WireBlock
-  pub read : record_in rec ≡ kept block
+  pub read : record_in rec ≡ Ok block
   pub tables : is_record_inside s block ≡ true
   pub group : group_inside s block d.of ≡ true
   pub message : leb (d.message.start + d.message.len) (length s) ≡ true

@@ -15,7 +15,7 @@ ghost use Rattle.walk_slots.specs.Slot.{walk_words, nodes_at, walk_at};
 ghost use Rattle.walk_calls.specs.Steps.{found_by, put_words, walk_in, walk_call};
 ghost use Rattle.short_calls.specs.Short.{NumbersHeld, PlaceInside};
 
-use answers::record::{RecordIn, record_in};
+use answers::record::record_in;
 use answers::words::put_numbers;
 use fields::part::part_fits;
 use kinds::dense_nodes::has_no_pairs;
@@ -42,7 +42,7 @@ fn is_place_inside(buffer: &[u8], rec: &[u8], slot: &[u8]) -> bool
     ensures { result ≡ true → PlaceInside buffer.now rec.now (nodes_at slot.now) }
 {
     let r = record_in(rec);
-    let RecordIn::Record(block) = r else {
+    let Ok(block) = r else {
         return false;
     };
     if !is_inside(buffer, block) {

@@ -1,11 +1,10 @@
 -- Worked values: where concrete elements start, with all fields different. They are proved by computing, so a definition that is changed
 -- breaks a row, whatever the code does.
-use Rattle.std.specs.Prelude.{ℕ, ◌≡◌, refl, List, [], ◌∷◌, ◌++◌, take, replicate, pos}
+use Rattle.std.specs.Prelude.{ℕ, ◌≡◌, refl, List, [], ◌∷◌, ◌++◌, take, replicate, pos, Ok, Err}
 use Rattle.protobuf.specs.declared.refusal.Refusal.TheVariants.{Outside}
 use Rattle.numbers.specs.Little.{little, bytes, number_at}
 use Rattle.numbers.specs.Signed.{signed, twos, residue}
 use Rattle.fields.specs.Part.{part_by, no_part}
-use Rattle.fields.specs.Outcome.{kept, refused}
 use Rattle.columns.specs.InStep.{start_of}
 use Rattle.elements.specs.declared.references.WayRefIter.TheVariants as refs
 use Rattle.elements.specs.declared.tags.TagIter.TheVariants as tags
@@ -43,30 +42,30 @@ a_relation =
 -- where an element starts
 pub record Starts : Type 0 where
   -- from the bytes of an element of each kind
-  pub refs-of_a_way : refs_start_in (in_bytes a_way) ≡ kept (refs_with 9 19 (pos 0))
-  pub refs-of_a_dense-node : refs_start_in (in_bytes a_dense) ≡ kept refs.Ended
-  pub refs-of_a_node : refs_start_in (in_bytes a_node) ≡ kept refs.Ended
-  pub refs-of_a_relation : refs_start_in (in_bytes a_relation) ≡ kept refs.Ended
-  pub tags-of_a_dense-node : tags_start_in (in_bytes a_dense) ≡ kept (tags.KeysVals (place 2 4))
-  pub tags-of_a_node : tags_start_in (in_bytes a_node) ≡ kept (columns_by 5 11 7 15)
-  pub tags-of_a_way : tags_start_in (in_bytes a_way) ≡ kept (columns_by 5 11 7 15)
-  pub tags-of_a_relation : tags_start_in (in_bytes a_relation) ≡ kept (columns_by 5 11 7 15)
-  pub members-of_a_relation : members_start_in (in_bytes a_relation) ≡ kept (members_with 9 19 11 23 (pos 0) 13 27)
-  pub members-of_a_dense-node : members_start_in (in_bytes a_dense) ≡ kept members.Ended
-  pub members-of_a_node : members_start_in (in_bytes a_node) ≡ kept members.Ended
-  pub members-of_a_way : members_start_in (in_bytes a_way) ≡ kept members.Ended
+  pub refs-of_a_way : refs_start_in (in_bytes a_way) ≡ Ok (refs_with 9 19 (pos 0))
+  pub refs-of_a_dense-node : refs_start_in (in_bytes a_dense) ≡ Ok refs.Ended
+  pub refs-of_a_node : refs_start_in (in_bytes a_node) ≡ Ok refs.Ended
+  pub refs-of_a_relation : refs_start_in (in_bytes a_relation) ≡ Ok refs.Ended
+  pub tags-of_a_dense-node : tags_start_in (in_bytes a_dense) ≡ Ok (tags.KeysVals (place 2 4))
+  pub tags-of_a_node : tags_start_in (in_bytes a_node) ≡ Ok (columns_by 5 11 7 15)
+  pub tags-of_a_way : tags_start_in (in_bytes a_way) ≡ Ok (columns_by 5 11 7 15)
+  pub tags-of_a_relation : tags_start_in (in_bytes a_relation) ≡ Ok (columns_by 5 11 7 15)
+  pub members-of_a_relation : members_start_in (in_bytes a_relation) ≡ Ok (members_with 9 19 11 23 (pos 0) 13 27)
+  pub members-of_a_dense-node : members_start_in (in_bytes a_dense) ≡ Ok members.Ended
+  pub members-of_a_node : members_start_in (in_bytes a_node) ≡ Ok members.Ended
+  pub members-of_a_way : members_start_in (in_bytes a_way) ≡ Ok members.Ended
   -- 14: too short, another kind, and a part that is neither there nor not
-  pub refs-short : refs_start_in (take 207 (in_bytes a_node)) ≡ refused Outside
-  pub tags-short : tags_start_in (take 207 (in_bytes a_node)) ≡ refused Outside
-  pub members-short : members_start_in (take 207 (in_bytes a_node)) ≡ refused Outside
-  pub refs-of-kind_four : refs_start_in (of_numbers (4 ∷ [])) ≡ refused Outside
-  pub tags-of-kind_four : tags_start_in (of_numbers (4 ∷ [])) ≡ refused Outside
-  pub members-of-kind_four : members_start_in (of_numbers (4 ∷ [])) ≡ refused Outside
-  pub refs-flag-two : refs_start_in (of_numbers (2 ∷ 0 ∷ 0 ∷ 0 ∷ 0 ∷ 0 ∷ 0 ∷ 0 ∷ 0 ∷ 0 ∷ 0 ∷ 0 ∷ 0 ∷ 0 ∷ 2 ∷ [])) ≡ refused Outside
-  pub keys-flag-two : tags_start_in (of_numbers (2 ∷ 0 ∷ 0 ∷ 0 ∷ 0 ∷ 2 ∷ [])) ≡ refused Outside
-  pub vals-flag-two : tags_start_in (of_numbers (1 ∷ 0 ∷ 0 ∷ 0 ∷ 0 ∷ 0 ∷ 0 ∷ 0 ∷ 0 ∷ 0 ∷ 2 ∷ [])) ≡ refused Outside
-  pub types-flag-two : members_start_in (of_numbers (3 ∷ 0 ∷ 0 ∷ 0 ∷ 0 ∷ 0 ∷ 0 ∷ 0 ∷ 0 ∷ 0 ∷ 0 ∷ 0 ∷ 0 ∷ 0 ∷ 0 ∷ 0 ∷ 0 ∷ 0 ∷ 0 ∷ 0 ∷ 2 ∷ [])) ≡ refused Outside
-  pub part-not-there : tags_start_in (of_numbers (2 ∷ [])) ≡ kept (columns_by 0 0 0 0)
+  pub refs-short : refs_start_in (take 207 (in_bytes a_node)) ≡ Err Outside
+  pub tags-short : tags_start_in (take 207 (in_bytes a_node)) ≡ Err Outside
+  pub members-short : members_start_in (take 207 (in_bytes a_node)) ≡ Err Outside
+  pub refs-of-kind_four : refs_start_in (of_numbers (4 ∷ [])) ≡ Err Outside
+  pub tags-of-kind_four : tags_start_in (of_numbers (4 ∷ [])) ≡ Err Outside
+  pub members-of-kind_four : members_start_in (of_numbers (4 ∷ [])) ≡ Err Outside
+  pub refs-flag-two : refs_start_in (of_numbers (2 ∷ 0 ∷ 0 ∷ 0 ∷ 0 ∷ 0 ∷ 0 ∷ 0 ∷ 0 ∷ 0 ∷ 0 ∷ 0 ∷ 0 ∷ 0 ∷ 2 ∷ [])) ≡ Err Outside
+  pub keys-flag-two : tags_start_in (of_numbers (2 ∷ 0 ∷ 0 ∷ 0 ∷ 0 ∷ 2 ∷ [])) ≡ Err Outside
+  pub vals-flag-two : tags_start_in (of_numbers (1 ∷ 0 ∷ 0 ∷ 0 ∷ 0 ∷ 0 ∷ 0 ∷ 0 ∷ 0 ∷ 0 ∷ 2 ∷ [])) ≡ Err Outside
+  pub types-flag-two : members_start_in (of_numbers (3 ∷ 0 ∷ 0 ∷ 0 ∷ 0 ∷ 0 ∷ 0 ∷ 0 ∷ 0 ∷ 0 ∷ 0 ∷ 0 ∷ 0 ∷ 0 ∷ 0 ∷ 0 ∷ 0 ∷ 0 ∷ 0 ∷ 0 ∷ 2 ∷ [])) ≡ Err Outside
+  pub part-not-there : tags_start_in (of_numbers (2 ∷ [])) ≡ Ok (columns_by 0 0 0 0)
 
 pub starts-worked : Starts
 unfolding little bytes number_at signed twos residue words start_of refs_start_in tags_start_in members_start_in

@@ -1,12 +1,12 @@
 -- Where an element's references, tags and members start, by its 208 bytes as `layouts` puts them: its kind is the first number, and each
 -- part is three. A slice that is too short, another kind, and a part that is neither present nor absent are 14; an element without such
 -- things starts at the ended state.
-use Rattle.std.specs.Prelude.{ℕ, ◌+◌, ◌≡◌, List, length, leb, eqb, pos}
+use Rattle.std.specs.Prelude.{ℕ, ◌+◌, ◌≡◌, List, length, leb, eqb, pos, Ok, Err}
 use Rattle.numbers.specs.Choose.{choose}
 use Rattle.numbers.specs.Little.{number_at}
 use Rattle.protobuf.specs.declared.refusal.Refusal.TheVariants.{Outside}
 use Rattle.fields.specs.declared.part.Part.{Part}
-use Rattle.fields.specs.Outcome.{Outcome, kept, refused}
+use Rattle.fields.specs.Outcome.{Outcome}
 use Rattle.columns.specs.InStep.{start_of}
 use Rattle.elements.specs.declared.references.WayRefIter.{WayRefIter}
 use Rattle.elements.specs.declared.references.WayRefIter.TheVariants as refs
@@ -26,31 +26,31 @@ part_at s at = record { present = eqb (number_at 8 s at) 1; start = number_at 8 
 
 -- where the first number of a part is 0 or 1
 abbrev pub whole : {A : Type 0} → List ℕ → ℕ → Outcome A → Outcome A
-whole s at x = choose (leb (number_at 8 s at) 1) x (refused Outside)
+whole s at x = choose (leb (number_at 8 s at) 1) x (Err Outside)
 
 -- an element of 208 bytes; other kinds of elements have none, and there are four
 abbrev pub element : {A : Type 0} → List ℕ → Outcome A → Outcome A
-element s x = choose (leb 208 (length s)) x (refused Outside)
+element s x = choose (leb 208 (length s)) x (Err Outside)
 
 abbrev pub otherwise : {A : Type 0} → List ℕ → A → Outcome A
-otherwise s x = choose (leb (kind_at s) 3) (kept x) (refused Outside)
+otherwise s x = choose (leb (kind_at s) 3) (Ok x) (Err Outside)
 
 unfoldable pub refs_start_in : List ℕ → Outcome WayRefIter
 refs_start_in s =
     element s
-    (choose (eqb (kind_at s) 2) (whole s 112 (kept (refs.Refs (record { column = start_of (part_at s 112); sum = pos 0 }))))
+    (choose (eqb (kind_at s) 2) (whole s 112 (Ok (refs.Refs (record { column = start_of (part_at s 112); sum = pos 0 }))))
     (otherwise s refs.Ended))
 
 -- from keys and vals
 abbrev pub columns_start_in : List ℕ → ℕ → ℕ → Outcome TagIter
-columns_start_in s keys vals = whole s keys (whole s vals (kept (keys_and_vals (part_at s keys) (part_at s vals))))
+columns_start_in s keys vals = whole s keys (whole s vals (Ok (keys_and_vals (part_at s keys) (part_at s vals))))
 
 unfoldable pub tags_start_in : List ℕ → Outcome TagIter
 tags_start_in s =
     element s
-    (choose (eqb (kind_at s) 0) (kept (tags.KeysVals (column_at s 56)))
+    (choose (eqb (kind_at s) 0) (Ok (tags.KeysVals (column_at s 56)))
     (choose (eqb (kind_at s) 1) (columns_start_in s 56 80)
-    (choose (leb (kind_at s) 3) (columns_start_in s 40 64) (refused Outside))))
+    (choose (leb (kind_at s) 3) (columns_start_in s 40 64) (Err Outside))))
 
 unfoldable pub members_start_in : List ℕ → Outcome RelMemberIter
 members_start_in s =
@@ -59,7 +59,7 @@ members_start_in s =
     (whole s 112
     (whole s 136
     (whole s 160
-    (kept
+    (Ok
     (members.Members
     (record {
       roles = start_of (part_at s 112);
@@ -70,8 +70,8 @@ members_start_in s =
 
 -- the state that goes into the slot: after a refusal the ended one
 abbrev pub started_by : {W : Type 0} → W → Outcome W → W
-started_by over (kept w) = w
-started_by over (refused r) = over
+started_by over (Ok w) = w
+started_by over (Err r) = over
 
 pub record Started {W : Type 0} (over : W) (start : Outcome W) (code : ℕ) (state : W) : Type 0 where
   pub tells-code : code ≡ code_of start

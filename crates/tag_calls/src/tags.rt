@@ -10,7 +10,7 @@ ghost use Rattle.calls.specs.Filling.{StopsAt, ItemPut, Run, Filled, Called};
 ghost use Rattle.tag_calls.specs.Tags.{tag_words, tags_at, tag_item, TextsBy, tags_in, tags_call};
 
 use answers::codes::{ENDED, OUTSIDE};
-use answers::record::{RecordIn, record_in};
+use answers::record::record_in;
 use answers::words::{put_at, put_numbers};
 use calls::ended::is_at_end;
 use calls::room::{Counted, one_room, put_count, room_for};
@@ -380,12 +380,12 @@ fn tags_over(buffer: &[u8], rec: &[u8], start: TagIter, out: &mut [u8], most: us
 {
     let r = record_in(rec);
     match r {
-        RecordIn::Outside => TagsFilled {
+        Err(_) => TagsFilled {
             code: OUTSIDE,
             count: 0,
             next: TagIter::Ended,
         },
-        RecordIn::Record(block) => fill_tags(buffer, block, start, out, most),
+        Ok(block) => fill_tags(buffer, block, start, out, most),
     }
 }
 

@@ -1,3 +1,2 @@
--- One file of laws for the slots that a loop fills, and one for the numbers of Info.
+-- Laws of the slots that the loop fills.
 pub mod Slots
-pub mod Info

@@ -2,9 +2,6 @@
 -- message.
 use Rattle.std.specs.Prelude.{ℕ}
 use Rattle.views.specs.declared.dense_info.WireDenseInfo.{WireDenseInfo}
-use Rattle.views.specs.declared.dense_info.DenseInfoParse.{DenseInfoParse}
-use Rattle.views.specs.declared.dense_info.DenseInfoParse.TheVariants as parse
-use Rattle.fields.specs.Outcome.{Outcome, kept, refused}
 use Rattle.fields.specs.View.{Slots, moved_slots}
 
 abbrev pub dense_info_of : Slots → WireDenseInfo
@@ -20,7 +17,3 @@ dense_info_of slots =
 
 abbrev pub dense_info_at : ℕ → Slots → WireDenseInfo
 dense_info_at base slots = dense_info_of (moved_slots base slots)
-
-abbrev pub parsed_dense_info : DenseInfoParse → Outcome WireDenseInfo
-parsed_dense_info (parse.Parsed v) = kept v
-parsed_dense_info (parse.Refused r) = refused r

@@ -2,9 +2,6 @@
 -- message.
 use Rattle.std.specs.Prelude.{ℕ}
 use Rattle.views.specs.declared.dense_nodes.WireDenseNodes.{WireDenseNodes}
-use Rattle.views.specs.declared.dense_nodes.DenseNodesParse.{DenseNodesParse}
-use Rattle.views.specs.declared.dense_nodes.DenseNodesParse.TheVariants as parse
-use Rattle.fields.specs.Outcome.{Outcome, kept, refused}
 use Rattle.fields.specs.View.{Slots, moved_slots}
 
 abbrev pub dense_nodes_of : Slots → WireDenseNodes
@@ -19,7 +16,3 @@ dense_nodes_of slots =
 
 abbrev pub dense_nodes_at : ℕ → Slots → WireDenseNodes
 dense_nodes_at base slots = dense_nodes_of (moved_slots base slots)
-
-abbrev pub parsed_dense_nodes : DenseNodesParse → Outcome WireDenseNodes
-parsed_dense_nodes (parse.Parsed v) = kept v
-parsed_dense_nodes (parse.Refused r) = refused r

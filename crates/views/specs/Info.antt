@@ -1,69 +1,57 @@
--- Info: the metadata of a node, a way or a relation. Its slots by name, and what the view hands out of them: numbers by their types, absent
--- where there was none.
-use Rattle.std.specs.Prelude.{ℕ, Bool, true, false, not, eqb, ℤ, pos, negsuc}
+-- Info: the metadata of a node, a way or a relation. What the view hands out of its slots: numbers by their types, absent where there was
+-- none.
+use Rattle.std.specs.Prelude.{ℕ, ◌+◌, ◌≡◌, refl, Bool, true, false, not, eqb, ℤ, pos, negsuc, Option, Some, None}
 use Rattle.numbers.specs.Choose.{choose}
 use Rattle.numbers.specs.Signed.{twos}
-use Rattle.views.specs.declared.info.Scalar.{Scalar}
 use Rattle.fields.specs.declared.slot.Slot.{Slot}
-use Rattle.views.specs.declared.info.Number32.{Number32}
-use Rattle.views.specs.declared.info.Number64.{Number64}
-use Rattle.views.specs.declared.info.Flag.{Flag}
 use Rattle.views.specs.declared.info.WireInfo.{WireInfo}
-use Rattle.views.specs.declared.info.InfoParse.{InfoParse}
-use Rattle.views.specs.declared.info.InfoParse.TheVariants as parse
-use Rattle.views.specs.declared.info.InfoFields.{InfoFields}
-use Rattle.fields.specs.Outcome.{Outcome, kept, refused}
-use Rattle.fields.specs.View.{Slots}
+use Rattle.fields.specs.Part.{part_by, no_part}
+use Rattle.fields.specs.View.{Slots, moved_slot, moved_slots}
 
--- a number, and whether it was read
-abbrev pub scalar_of : Slot → Scalar
-scalar_of slot = record { present = slot.part.present; value = slot.value }
-
-abbrev pub info_fields : Slots → InfoFields
-info_fields slots =
-    record {
-      version = scalar_of (slots 1);
-      timestamp = scalar_of (slots 2);
-      changeset = scalar_of (slots 3);
-      uid = scalar_of (slots 4);
-      user = scalar_of (slots 5);
-      visible = scalar_of (slots 6);
-    }
-
--- ---- by their types
-
-abbrev pub int32_of : Scalar → Number32
-int32_of x = choose x.present (record { present = true; value = twos 32 x.value }) (record { present = false; value = pos 0 })
-
-abbrev pub int64_of : Scalar → Number64
-int64_of x = choose x.present (record { present = true; value = twos 64 x.value }) (record { present = false; value = pos 0 })
+-- the number of a slot by its type, where it was read
+abbrev pub number_of : {A : Type 0} → (ℕ → A) → Slot → Option A
+number_of typed slot = choose slot.part.present (Some (typed slot.value)) None
 
 -- true unless 0
-abbrev pub bool_of : Scalar → Flag
-bool_of x = choose x.present (record { present = true; value = not (eqb x.value 0) }) (record { present = false; value = false })
+abbrev pub bool_of : ℕ → Bool
+bool_of n = not (eqb n 0)
 
 abbrev pub is_minus_one : ℤ → Bool
 is_minus_one (pos n) = false
 is_minus_one (negsuc n) = eqb n 0
 
-abbrev pub absent : Scalar
-absent = record { present = false; value = 0 }
+-- a number that is −1 becomes absent
+abbrev pub unless_minus_one : Option ℤ → Option ℤ
+unless_minus_one None = None
+unless_minus_one (Some n) = choose (is_minus_one n) None (Some n)
 
--- a number of w bits that is −1 becomes absent
-abbrev pub unless_minus_one : ℕ → Scalar → Scalar
-unless_minus_one w x = choose (is_minus_one (twos w x.value)) absent x
-
-abbrev pub info_of : InfoFields → WireInfo
-info_of v =
+abbrev pub info_of : Slots → WireInfo
+info_of slots =
     record {
-      version = int32_of (unless_minus_one 32 v.version);
-      timestamp = int64_of v.timestamp;
-      changeset = int64_of (unless_minus_one 64 v.changeset);
-      uid = int32_of v.uid;
-      user = int32_of v.user;
-      visible = bool_of v.visible;
+      version = unless_minus_one (number_of (twos 32) (slots 1));
+      timestamp = number_of (twos 64) (slots 2);
+      changeset = unless_minus_one (number_of (twos 64) (slots 3));
+      uid = number_of (twos 32) (slots 4);
+      user = number_of (twos 32) (slots 5);
+      visible = number_of bool_of (slots 6);
     }
 
-abbrev pub parsed_info : InfoParse → Outcome WireInfo
-parsed_info (parse.Parsed v) = kept v
-parsed_info (parse.Refused r) = refused r
+-- ---- what is handed out does not tell where the message stands
+
+number-moved : {A : Type 0} (typed : ℕ → A) (base : ℕ) (x : Slot) → number_of typed (moved_slot base x) ≡ number_of typed x
+number-moved {A} typed base x = by x.part.present
+  where
+    by : (b : Bool) → ◌≡◌ {A = Option A} (choose (choose b (part_by (base + x.part.start) x.part.len) no_part).present (Some (typed x.value)) None) (choose b (Some (typed x.value)) None)
+    by true = refl
+    by false = refl
+
+pub info-moved : (base : ℕ) (slots : Slots) → info_of (moved_slots base slots) ≡ info_of slots
+info-moved base slots i =
+    record {
+      version = unless_minus_one (number-moved (twos 32) base (slots 1) i);
+      timestamp = number-moved (twos 64) base (slots 2) i;
+      changeset = unless_minus_one (number-moved (twos 64) base (slots 3) i);
+      uid = number-moved (twos 32) base (slots 4) i;
+      user = number-moved (twos 32) base (slots 5) i;
+      visible = number-moved bool_of base (slots 6) i;
+    }

@@ -3,9 +3,6 @@
 use Rattle.std.specs.Prelude.{ℕ}
 use Rattle.numbers.specs.Signed.{zigzag}
 use Rattle.views.specs.declared.node.WireNode.{WireNode}
-use Rattle.views.specs.declared.node.NodeParse.{NodeParse}
-use Rattle.views.specs.declared.node.NodeParse.TheVariants as parse
-use Rattle.fields.specs.Outcome.{Outcome, kept, refused}
 use Rattle.fields.specs.View.{Slots, moved_slots}
 
 abbrev pub node_of : Slots → WireNode
@@ -21,7 +18,3 @@ node_of slots =
 
 abbrev pub node_at : ℕ → Slots → WireNode
 node_at base slots = node_of (moved_slots base slots)
-
-abbrev pub parsed_node : NodeParse → Outcome WireNode
-parsed_node (parse.Parsed v) = kept v
-parsed_node (parse.Refused r) = refused r

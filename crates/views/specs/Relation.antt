@@ -3,9 +3,6 @@
 use Rattle.std.specs.Prelude.{ℕ}
 use Rattle.numbers.specs.Signed.{twos}
 use Rattle.views.specs.declared.relation.WireRelation.{WireRelation}
-use Rattle.views.specs.declared.relation.RelationParse.{RelationParse}
-use Rattle.views.specs.declared.relation.RelationParse.TheVariants as parse
-use Rattle.fields.specs.Outcome.{Outcome, kept, refused}
 use Rattle.fields.specs.View.{Slots, moved_slots}
 
 abbrev pub relation_of : Slots → WireRelation
@@ -22,7 +19,3 @@ relation_of slots =
 
 abbrev pub relation_at : ℕ → Slots → WireRelation
 relation_at base slots = relation_of (moved_slots base slots)
-
-abbrev pub parsed_relation : RelationParse → Outcome WireRelation
-parsed_relation (parse.Parsed v) = kept v
-parsed_relation (parse.Refused r) = refused r

@@ -3,9 +3,6 @@
 use Rattle.std.specs.Prelude.{ℕ}
 use Rattle.numbers.specs.Signed.{twos}
 use Rattle.views.specs.declared.way.WireWay.{WireWay}
-use Rattle.views.specs.declared.way.WayParse.{WayParse}
-use Rattle.views.specs.declared.way.WayParse.TheVariants as parse
-use Rattle.fields.specs.Outcome.{Outcome, kept, refused}
 use Rattle.fields.specs.View.{Slots, moved_slots}
 
 abbrev pub way_of : Slots → WireWay
@@ -23,7 +20,3 @@ way_of slots =
 
 abbrev pub way_at : ℕ → Slots → WireWay
 way_at base slots = way_of (moved_slots base slots)
-
-abbrev pub parsed_way : WayParse → Outcome WireWay
-parsed_way (parse.Parsed v) = kept v
-parsed_way (parse.Refused r) = refused r

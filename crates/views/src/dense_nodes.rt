@@ -1,18 +1,12 @@
 // DenseNodes: a group's dense nodes, a column for each of their values.
-ghost use Rattle.std.specs.Prelude.{◌≡◌};
-ghost use Rattle.fields.specs.Outcome.{each};
-ghost use Rattle.fields.specs.View.{view_in};
-ghost use Rattle.protobuf.specs.Tag.{split};
-ghost use Rattle.fields.specs.Slot.{rule_by, rule_for};
-ghost use Rattle.views.specs.Slots.{slots_of};
+ghost use Rattle.std.specs.Prelude.{refl};
 ghost use Rattle.fields.specs.Schema.{dense_nodes};
-ghost use Rattle.views.specs.DenseNodes.{dense_nodes_of, dense_nodes_at, parsed_dense_nodes};
+ghost use Rattle.views.specs.DenseNodes.{dense_nodes_of, dense_nodes_at};
 
-use crate::slots::{Status, View, part_in, read_view};
+use crate::view::{PLACES, View, part_in};
 use fields::part::Part;
 use fields::schema::dense_nodes;
-use fields::slot::Rule;
-use protobuf::refusal::Refusal;
+use fields::slot::{Rule, Slot};
 
 // `keyvals` is keys_vals.
 #[derive(Clone, Copy)]
@@ -24,50 +18,36 @@ pub struct WireDenseNodes {
     pub keyvals: Part,
 }
 
-#[derive(Clone, Copy)]
-pub enum DenseNodesParse {
-    Parsed(WireDenseNodes),
-    Refused(Refusal),
-}
+impl View for WireDenseNodes {
+    ghost schema = { dense_nodes };
 
-// What the view makes of a field, by its number with its wire type; any other pair is passed over.
-pub(crate) fn dense_nodes_rule(tag: u32) -> Rule
-    ensures { rule_by result ≡ rule_for dense_nodes (split tag) }
-{
-    match tag {
-        dense_nodes::ID | dense_nodes::ID_ONE => Rule::Column(1),
-        dense_nodes::INFO => Rule::Message(5),
-        dense_nodes::LAT | dense_nodes::LAT_ONE => Rule::Column(8),
-        dense_nodes::LON | dense_nodes::LON_ONE => Rule::Column(9),
-        dense_nodes::KEYS_VALS | dense_nodes::KEYS_VALS_ONE => Rule::Column(10),
-        _ => Rule::Pass,
-    }
-}
+    ghost of = { dense_nodes_of };
 
-// The slots by name and type.
-fn dense_nodes_of(v: &[u64; 44]) -> WireDenseNodes
-    ensures { result ≡ dense_nodes_of (slots_of v.now) }
-{
-    WireDenseNodes {
-        id: part_in(v, 1),
-        info: part_in(v, 5),
-        lat: part_in(v, 8),
-        lon: part_in(v, 9),
-        keyvals: part_in(v, 10),
-    }
-}
+    ghost at = { dense_nodes_at };
 
-impl WireDenseNodes {
-    // The DenseNodes in `len` bytes from `start`, its parts as parts of the buffer: 14 where they pass the buffer, then the stream's refusals,
-    // 9 for a second column that is not empty, 10 for a second such info.
-    pub fn parse(buffer: &[u8], start: usize, len: usize) -> DenseNodesParse
-        ensures { parsed_dense_nodes result ≡ each (dense_nodes_at start) (view_in dense_nodes buffer.now start len) }
-    {
-        let mut v = [0; 44];
-        let status = read_view(buffer, start, len, View::DenseNodes, &mut v);
-        match status {
-            Status::Refused(n) => DenseNodesParse::Refused(n),
-            Status::Kept => DenseNodesParse::Parsed(dense_nodes_of(&v)),
+    #[tactic(auto, unfolding(fields::specs::Slot::rule_for))]
+    fn rule(tag: u32) -> Rule {
+        match tag {
+            dense_nodes::ID | dense_nodes::ID_ONE => Rule::Column(1),
+            dense_nodes::INFO => Rule::Message(5),
+            dense_nodes::LAT | dense_nodes::LAT_ONE => Rule::Column(8),
+            dense_nodes::LON | dense_nodes::LON_ONE => Rule::Column(9),
+            dense_nodes::KEYS_VALS | dense_nodes::KEYS_VALS_ONE => Rule::Column(10),
+            _ => Rule::Pass,
         }
     }
+
+    fn of(slots: &[Slot; PLACES]) -> WireDenseNodes {
+        WireDenseNodes {
+            id: part_in(slots, 1),
+            info: part_in(slots, 5),
+            lat: part_in(slots, 8),
+            lon: part_in(slots, 9),
+            keyvals: part_in(slots, 10),
+        }
+    }
+
+    ghost room = { refl };
+
+    ghost moved = { λ base slots. refl };
 }

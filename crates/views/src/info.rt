@@ -1,224 +1,91 @@
 // Info: the metadata of a node, a way or a relation.
-ghost use Rattle.std.specs.Prelude.{◌≡◌, ◌<◌};
-ghost use Rattle.fields.specs.Outcome.{each};
-ghost use Rattle.fields.specs.View.{view_in};
-ghost use Rattle.protobuf.specs.Tag.{split};
-ghost use Rattle.fields.specs.Slot.{rule_by, rule_for};
-ghost use Rattle.views.specs.Slots.{slot_at, slots_of};
+ghost use Rattle.std.specs.Prelude.{◌≡◌, ◌<◌, ℕ, refl};
+ghost use Rattle.numbers.specs.Signed.{twos};
 ghost use Rattle.fields.specs.Schema.{info};
-ghost use Rattle.views.specs.Info.{scalar_of, info_fields, int32_of, int64_of, bool_of, unless_minus_one, info_of, parsed_info};
+ghost use Rattle.views.specs.Slots.{slot_at};
+ghost use Rattle.views.specs.Info.{number_of, bool_of, info_of, info-moved};
 
-use crate::slots::{Status, View, read_view};
+use crate::view::{PLACES, View};
 use fields::schema::info;
-use fields::slot::Rule;
+use fields::slot::{Rule, Slot};
 use numbers::signed::{int32, int64};
-use protobuf::refusal::Refusal;
 
-// A number of 32 bits, if there is one: 0 where there is none.
-#[derive(Clone, Copy)]
-pub struct Number32 {
-    pub present: bool,
-    pub value: i32,
-}
-
-// The same in 64 bits.
-#[derive(Clone, Copy)]
-pub struct Number64 {
-    pub present: bool,
-    pub value: i64,
-}
-
-// A bool, if there is one: false where there is none.
-#[derive(Clone, Copy)]
-pub struct Flag {
-    pub present: bool,
-    pub value: bool,
-}
-
-// `user` is user_sid.
+// Each where it was read; `user` is user_sid.
 #[derive(Clone, Copy)]
 pub struct WireInfo {
-    pub version: Number32,
-    pub timestamp: Number64,
-    pub changeset: Number64,
-    pub uid: Number32,
-    pub user: Number32,
-    pub visible: Flag,
+    pub version: Option<i32>,
+    pub timestamp: Option<i64>,
+    pub changeset: Option<i64>,
+    pub uid: Option<i32>,
+    pub user: Option<i32>,
+    pub visible: Option<bool>,
 }
 
-#[derive(Clone, Copy)]
-pub enum InfoParse {
-    Parsed(WireInfo),
-    Refused(Refusal),
-}
-
-// The number of a slot, and whether it was read.
-#[derive(Clone, Copy)]
-pub struct Scalar {
-    pub present: bool,
-    pub value: u64,
-}
-
-// The message's slots.
-#[derive(Clone, Copy)]
-pub struct InfoFields {
-    pub version: Scalar,
-    pub timestamp: Scalar,
-    pub changeset: Scalar,
-    pub uid: Scalar,
-    pub user: Scalar,
-    pub visible: Scalar,
-}
-
-// The lowest 32 bits, signed.
-fn int32_of(x: Scalar) -> Number32
-    ensures { result ≡ int32_of x }
+// The number at a place, where it was read.
+fn number_in(slots: &[Slot; PLACES], k: usize) -> Option<u64>
+    requires { k < 11 }
+    ensures { result ≡ number_of (λ n. n) (slot_at slots.now k) }
 {
-    if x.present {
-        Number32 {
-            present: true,
-            value: int32(x.value),
-        }
-    } else {
-        Number32 {
-            present: false,
-            value: 0,
-        }
-    }
+    slots[k].part.present.then_some(slots[k].value)
 }
 
-// All 64 bits, signed.
-fn int64_of(x: Scalar) -> Number64
-    ensures { result ≡ int64_of x }
+// By its lowest 32 bits, with their sign.
+fn int32_in(slots: &[Slot; PLACES], k: usize) -> Option<i32>
+    requires { k < 11 }
+    ensures { result ≡ number_of (twos 32) (slot_at slots.now k) }
 {
-    if x.present {
-        Number64 {
-            present: true,
-            value: int64(x.value),
-        }
-    } else {
-        Number64 {
-            present: false,
-            value: 0,
-        }
-    }
+    number_in(slots, k).map(int32)
+}
+
+// By all 64 bits.
+fn int64_in(slots: &[Slot; PLACES], k: usize) -> Option<i64>
+    requires { k < 11 }
+    ensures { result ≡ number_of (twos 64) (slot_at slots.now k) }
+{
+    number_in(slots, k).map(int64)
 }
 
 // True unless 0.
-fn bool_of(x: Scalar) -> Flag
-    ensures { result ≡ bool_of x }
-{
-    if x.present {
-        Flag {
-            present: true,
-            value: x.value != 0,
-        }
-    } else {
-        Flag {
-            present: false,
-            value: false,
-        }
-    }
-}
-
-// A number whose lowest 32 bits are −1 becomes absent.
-fn unless_minus_one32(x: Scalar) -> Scalar
-    ensures { result ≡ unless_minus_one 32 x }
-{
-    if int32(x.value) == -1 {
-        Scalar {
-            present: false,
-            value: 0,
-        }
-    } else {
-        x
-    }
-}
-
-// A number whose 64 bits are −1 becomes absent.
-fn unless_minus_one64(x: Scalar) -> Scalar
-    ensures { result ≡ unless_minus_one 64 x }
-{
-    if int64(x.value) == -1 {
-        Scalar {
-            present: false,
-            value: 0,
-        }
-    } else {
-        x
-    }
-}
-
-// The number at a place, and whether it was read.
-fn scalar_in(v: &[u64; 44], k: usize) -> Scalar
+fn bool_in(slots: &[Slot; PLACES], k: usize) -> Option<bool>
     requires { k < 11 }
-    ensures { result ≡ scalar_of (slot_at v.now k) }
+    ensures { result ≡ number_of bool_of (slot_at slots.now k) }
 {
-    Scalar {
-        present: v[4 * k + 1] != 0,
-        value: v[4 * k],
-    }
+    number_in(slots, k).map(|n| n != 0)
 }
 
-// The slots by name.
-fn info_fields(v: &[u64; 44]) -> InfoFields
-    ensures { result ≡ info_fields (slots_of v.now) }
-{
-    InfoFields {
-        version: scalar_in(v, 1),
-        timestamp: scalar_in(v, 2),
-        changeset: scalar_in(v, 3),
-        uid: scalar_in(v, 4),
-        user: scalar_in(v, 5),
-        visible: scalar_in(v, 6),
-    }
-}
+impl View for WireInfo {
+    ghost schema = { info };
 
-// The slots by their types.
-fn info_of(v: InfoFields) -> WireInfo
-    ensures { result ≡ info_of v }
-{
-    let version = v.version;
-    let timestamp = v.timestamp;
-    let changeset = v.changeset;
-    let uid = v.uid;
-    let user = v.user;
-    let visible = v.visible;
-    WireInfo {
-        version: int32_of(unless_minus_one32(version)),
-        timestamp: int64_of(timestamp),
-        changeset: int64_of(unless_minus_one64(changeset)),
-        uid: int32_of(uid),
-        user: int32_of(user),
-        visible: bool_of(visible),
-    }
-}
+    ghost of = { info_of };
 
-// What the view makes of a field, by its number with its wire type; any other pair is passed over.
-pub(crate) fn info_rule(tag: u32) -> Rule
-    ensures { rule_by result ≡ rule_for info (split tag) }
-{
-    match tag {
-        info::VERSION => Rule::Scalar(1),
-        info::TIMESTAMP => Rule::Scalar(2),
-        info::CHANGESET => Rule::Scalar(3),
-        info::UID => Rule::Scalar(4),
-        info::USER_SID => Rule::Scalar(5),
-        info::VISIBLE => Rule::Scalar(6),
-        _ => Rule::Pass,
-    }
-}
+    ghost at = { λ base slots. info_of slots };
 
-impl WireInfo {
-    // The Info in `len` bytes from `start`: 14 where they pass the buffer, then the stream's refusals.
-    pub fn parse(buffer: &[u8], start: usize, len: usize) -> InfoParse
-        ensures { parsed_info result ≡ each (λ slots. info_of (info_fields slots)) (view_in info buffer.now start len) }
-    {
-        let mut v = [0; 44];
-        let status = read_view(buffer, start, len, View::Info, &mut v);
-        match status {
-            Status::Refused(n) => InfoParse::Refused(n),
-            Status::Kept => InfoParse::Parsed(info_of(info_fields(&v))),
+    #[tactic(auto, unfolding(fields::specs::Slot::rule_for))]
+    fn rule(tag: u32) -> Rule {
+        match tag {
+            info::VERSION => Rule::Scalar(1),
+            info::TIMESTAMP => Rule::Scalar(2),
+            info::CHANGESET => Rule::Scalar(3),
+            info::UID => Rule::Scalar(4),
+            info::USER_SID => Rule::Scalar(5),
+            info::VISIBLE => Rule::Scalar(6),
+            _ => Rule::Pass,
         }
     }
+
+    // A version or a changeset that is −1 becomes absent.
+    fn of(slots: &[Slot; PLACES]) -> WireInfo {
+        WireInfo {
+            version: int32_in(slots, 1).filter(|n| *n != -1),
+            timestamp: int64_in(slots, 2),
+            changeset: int64_in(slots, 3).filter(|n| *n != -1),
+            uid: int32_in(slots, 4),
+            user: int32_in(slots, 5),
+            visible: bool_in(slots, 6),
+        }
+    }
+
+    ghost room = { refl };
+
+    ghost moved = { info-moved };
 }

@@ -1,5 +1,5 @@
-// wire.rs of the Rust, its messages: the six views, each one `match` over field and wire type, and the one loop that serves them all. It reads
-// lent bytes and answers numbers and parts, or a refusal of document 01's table.
+// wire.rs of the Rust, its messages: the six views, each one `match` over field and wire type, and the trait whose one loop serves them all. It
+// reads lent bytes and answers numbers and parts, or a refusal of document 01's table.
 #![tactic(auto)]
 
 pub mod dense_info;
@@ -7,5 +7,5 @@ pub mod dense_nodes;
 pub mod info;
 pub mod node;
 pub mod relation;
-pub mod slots;
+pub mod view;
 pub mod way;

@@ -1,10 +1,10 @@
 -- One turn of a walk: a move that hands out nothing, or something to say. Of a move: what the state that it comes to has ahead, that it is
 -- inside, and that it is nearer to the walk's end.
-use Rattle.std.specs.Prelude.{ℕ, ◌+◌, ◌-◌, ◌*◌, ◌≡◌, List, Bool, true, false, ltb, eqb}
+use Rattle.std.specs.Prelude.{ℕ, ◌+◌, ◌-◌, ◌*◌, ◌≡◌, List, Bool, true, false, ltb, eqb, Option, Some, None, Ok, Err}
 use Rattle.protobuf.specs.Stream.{end}
 use Rattle.protobuf.specs.Column.{ended, cut, Column}
 use Rattle.protobuf.specs.declared.refusal.Refusal.{Refusal}
-use Rattle.fields.specs.Outcome.{each}
+use Rattle.fields.specs.Outcome.{each, Outcome}
 use Rattle.fields.specs.declared.part.Part.{Part}
 use Rattle.fields.specs.View.{view_in}
 use Rattle.fields.specs.Schema.{dense_nodes, dense_info}
@@ -25,7 +25,6 @@ use Rattle.walk.specs.declared.state.BlockElementsIter.{BlockElementsIter}
 use Rattle.walk.specs.declared.state.BlockElementsIter.TheVariants as walk
 use Rattle.walk.specs.declared.turns.Move.{Move}
 use Rattle.walk.specs.declared.moves.Entry.{Entry}
-use Rattle.walk.specs.declared.moves.Entry.TheVariants as entry
 use Rattle.walk.specs.State.{group_inside, state_inside}
 use Rattle.walk.specs.Walk.{Found, ◌then◌, behind, messages_of, part_of, from_full_dense, infos_start, enter_dense, enter_found, groups_behind, elements_by, said_then, behind_said}
 use Rattle.walk.specs.Said.{dense_element}
@@ -129,15 +128,15 @@ abbrev pub Turns : List ℕ → WireBlock → BlockElementsIter → Move → Typ
 Turns s r w q = Quietly s r (turns_within r w) (elements_by s r w) q
 
 -- what is ahead at a group's number, by what stands there; a group that does has this number, and is inside
-abbrev pub entry_ahead : Bool → List ℕ → WireBlock → Entry → Column Found
-entry_ahead full s r (entry.Group of message) = enter_found full s of message then groups_behind full s r of
-entry_ahead full s r entry.Past = end ended
-entry_ahead full s r (entry.Refused n) = end (cut n)
+abbrev pub entry_ahead : Bool → List ℕ → WireBlock → Outcome (Option Entry) → Column Found
+entry_ahead full s r (Ok (Some e)) = enter_found full s e.of e.message then groups_behind full s r e.of
+entry_ahead full s r (Ok None) = end ended
+entry_ahead full s r (Err n) = end (cut n)
 
-abbrev pub entry_stands : List ℕ → WireBlock → ℕ → Entry → Bool
-entry_stands s r number (entry.Group of message) = also (group_inside s r of) (eqb of.group number)
-entry_stands s r number entry.Past = true
-entry_stands s r number (entry.Refused n) = true
+abbrev pub entry_stands : List ℕ → WireBlock → ℕ → Outcome (Option Entry) → Bool
+entry_stands s r number (Ok (Some e)) = also (group_inside s r e.of) (eqb e.of.group number)
+entry_stands s r number (Ok None) = true
+entry_stands s r number (Err n) = true
 
 -- what is ahead at a group's dense message, and at its DenseInfo in a full walk
 abbrev pub at_dense : Bool → List ℕ → WireBlock → GroupRangeAt → Part → Column Found

@@ -2,11 +2,11 @@
 -- plain walks have ahead, element by element, in step, up to the first difference or number. Of an element: group, kind, id and raw position;
 -- then its tags, its references and its members, each in step. Where both sides meet a number the first one's is told. Texts count by
 -- their bytes, roles by their texts.
-use Rattle.std.specs.Prelude.{ℕ, List, [], ◌∷◌, Bool, true, false, eqb, ℤ, pos, negsuc}
+use Rattle.std.specs.Prelude.{ℕ, List, [], ◌∷◌, Bool, true, false, eqb, ℤ, pos, negsuc, Ok, Err}
 use Rattle.std.proofs.Math.Option.{Option, none, some}
 use Rattle.protobuf.specs.Stream.{end, more}
 use Rattle.protobuf.specs.Column.{ended, cut, Column}
-use Rattle.fields.specs.Outcome.{Outcome, kept, refused, onward}
+use Rattle.fields.specs.Outcome.{Outcome, onward}
 use Rattle.fields.specs.Part.{bytes_in}
 use Rattle.wire.specs.declared.record.WireBlock.{WireBlock}
 use Rattle.block.specs.Strings.{Text}
@@ -86,33 +86,33 @@ same_member_id (unknown k i) (unknown l j) = also (same_number k l) (same_number
 
 -- one comparison, and where it finds no difference another
 abbrev pub and_same : Outcome Bool → Outcome Bool → Outcome Bool
-and_same (refused r) others = refused r
-and_same (kept false) others = kept false
-and_same (kept true) others = others
+and_same (Err r) others = Err r
+and_same (Ok false) others = Ok false
+and_same (Ok true) others = others
 
 unfoldable pub same_stream : {A B : Type 0} → (A → B → Outcome Bool) → Column A → Column B → Outcome Bool
-same_stream same (end (cut r)) d = refused r
-same_stream same (end ended) (end (cut r)) = refused r
-same_stream same (end ended) (end ended) = kept true
-same_stream same (end ended) (more y ys) = kept false
-same_stream same (more x xs) (end (cut r)) = refused r
-same_stream same (more x xs) (end ended) = kept false
+same_stream same (end (cut r)) d = Err r
+same_stream same (end ended) (end (cut r)) = Err r
+same_stream same (end ended) (end ended) = Ok true
+same_stream same (end ended) (more y ys) = Ok false
+same_stream same (more x xs) (end (cut r)) = Err r
+same_stream same (more x xs) (end ended) = Ok false
 same_stream same (more x xs) (more y ys) = and_same (same x y) (same_stream same xs ys)
 
 -- ---- two blocks
 
 module _ (s : List ℕ) (r : WireBlock) (t : List ℕ) (q : WireBlock) where
   abbrev pub same_tag : Tag → Tag → Outcome Bool
-  same_tag a b = kept (also (same_text (bytes_in s a.key) (bytes_in t b.key)) (same_text (bytes_in s a.value) (bytes_in t b.value)))
+  same_tag a b = Ok (also (same_text (bytes_in s a.key) (bytes_in t b.key)) (same_text (bytes_in s a.value) (bytes_in t b.value)))
 
   abbrev pub same_ref : ℤ → ℤ → Outcome Bool
-  same_ref i j = kept (same_number i j)
+  same_ref i j = Ok (same_number i j)
 
   -- the first's role text, then the second's
   abbrev pub same_member : RelMember → RelMember → Outcome Bool
   same_member a b =
       onward (text_of s (role_at s r a.role)) λ x.
-      onward (text_of t (role_at t q b.role)) λ y. kept (also (same_role x y) (same_member_id (id_of a.id) (id_of b.id)))
+      onward (text_of t (role_at t q b.role)) λ y. Ok (also (same_role x y) (same_member_id (id_of a.id) (id_of b.id)))
 
   abbrev pub same_head : Found → Found → Bool
   same_head f g =
@@ -126,7 +126,7 @@ module _ (s : List ℕ) (r : WireBlock) (t : List ℕ) (q : WireBlock) where
       (and_same (same_stream same_ref (references_of s i) (references_of t j)) (same_stream same_member (members_of s r i) (members_of t q j)))
 
   abbrev pub same_element : Found → Found → Outcome Bool
-  same_element f g = and_same (kept (same_head f g)) (same_item f.item g.item)
+  same_element f g = and_same (Ok (same_head f g)) (same_item f.item g.item)
 
   abbrev pub same_record : Bool
   same_record =
@@ -134,4 +134,4 @@ module _ (s : List ℕ) (r : WireBlock) (t : List ℕ) (q : WireBlock) where
       (also (same_number r.latoffset q.latoffset) (also (same_number r.lonoffset q.lonoffset) (eqb r.groups q.groups)))
 
   unfoldable pub same_walks : Outcome Bool
-  same_walks = and_same (kept same_record) (same_stream same_element (elements_from s r (fresh false)) (elements_from t q (fresh false)))
+  same_walks = and_same (Ok same_record) (same_stream same_element (elements_from s r (fresh false)) (elements_from t q (fresh false)))

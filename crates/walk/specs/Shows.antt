@@ -1,19 +1,18 @@
 -- What an element that a walk hands out shows, beside an element of a block's listing: group, kind, id and raw position, and that its tags,
 -- references and members have the listing's ahead, one by one and then the end, texts by their bytes. In a full walk also its metadata, beside
 -- an element of the full listing.
-use Rattle.std.specs.Prelude.{◌≡◌, List, [], ◌∷◌, ℕ, ℤ}
-use Rattle.std.proofs.Math.Option.{Option, none, some}
+use Rattle.std.specs.Prelude.{◌≡◌, List, [], ◌∷◌, ℕ, ℤ, Ok, Err, Option, Some, None}
+use Rattle.std.proofs.Math.Option.{none, some}
+use Rattle.std.proofs.Math.Option as math
 use Rattle.protobuf.specs.Stream.{end, more}
 use Rattle.protobuf.specs.Column.{ended, Column}
 use Rattle.fields.specs.declared.part.Part.{Part}
-use Rattle.fields.specs.Outcome.{Outcome, kept, refused, each}
+use Rattle.fields.specs.Outcome.{Outcome, each}
 use Rattle.fields.specs.Part.{bytes_in}
 use Rattle.fields.specs.Schema.{info}
 use Rattle.fields.specs.View.{view_in}
-use Rattle.views.specs.Info.{info_fields, info_of}
+use Rattle.views.specs.Info.{info_of}
 use Rattle.wire.specs.declared.record.WireBlock.{WireBlock}
-use Rattle.lookup.specs.declared.by_number.Got.{Got}
-use Rattle.lookup.specs.declared.by_number.Got.TheVariants as got
 use Rattle.lookup.specs.Lookup.{get_at}
 use Rattle.block.specs.Strings.{Text}
 use Rattle.block.specs.Strings as listed
@@ -43,10 +42,10 @@ pub record TagShows (s : List ℕ) (t : Tag) (e : listed.Tag) : Type 0 where
   pub value : bytes_in s t.value ≡ e.value
 
 -- the text that a lookup hands out
-abbrev pub text_of : List ℕ → Got → Outcome (Option Text)
-text_of s got.None = kept none
-text_of s (got.Text p) = kept (some (bytes_in s p))
-text_of s (got.Refused r) = refused r
+abbrev pub text_of : List ℕ → Outcome (Option Part) → Outcome (math.Option Text)
+text_of s (Ok None) = Ok none
+text_of s (Ok (Some p)) = Ok (some (bytes_in s p))
+text_of s (Err r) = Err r
 
 abbrev pub id_of : handed.MemberId → MemberId
 id_of (id.Node i) = of_node i
@@ -55,7 +54,7 @@ id_of (id.Relation i) = of_relation i
 id_of (id.Unknown kind i) = unknown kind i
 
 pub record MemberShows (s : List ℕ) (r : WireBlock) (m : RelMember) (e : Member) : Type 0 where
-  pub role : text_of s (role_at s r m.role) ≡ kept e.role
+  pub role : text_of s (role_at s r m.role) ≡ Ok e.role
   pub id : id_of m.id ≡ e.id
 
 -- ---- an element
@@ -72,7 +71,7 @@ item_id (node_item v) = v.id
 item_id (way_item v) = v.id
 item_id (relation_item v) = v.id
 
-abbrev pub position_of : Item → Option Position
+abbrev pub position_of : Item → math.Option Position
 position_of (dense_item d) = some (record { lat = d.lat; lon = d.lon })
 position_of (node_item v) = some (record { lat = v.lat; lon = v.lon })
 position_of (way_item v) = none
@@ -109,14 +108,14 @@ pub record Shows (s : List ℕ) (r : WireBlock) (f : Found) (e : Element) : Type
 
 -- the Info in a part that is handed out; an absent part is an empty Info
 abbrev pub viewed_info : List ℕ → Part → Outcome Metadata
-viewed_info s p = each (λ slots. viewed (info_of (info_fields slots))) (view_in info s p.start p.len)
+viewed_info s p = each (λ slots. viewed (info_of slots)) (view_in info s p.start p.len)
 
 -- a row that was read
-abbrev pub row_shown : RowInfo → Option (Outcome Metadata)
+abbrev pub row_shown : RowInfo → math.Option (Outcome Metadata)
 row_shown unread = none
-row_shown (row i) = some (kept (in_step i))
+row_shown (row i) = some (Ok (in_step i))
 
-abbrev pub metadata_of : List ℕ → Item → Option (Outcome Metadata)
+abbrev pub metadata_of : List ℕ → Item → math.Option (Outcome Metadata)
 metadata_of s (dense_item d) = row_shown d.info
 metadata_of s (node_item v) = some (viewed_info s v.info)
 metadata_of s (way_item v) = some (viewed_info s v.info)
@@ -134,4 +133,4 @@ full_elements block = beside (full_listing block).plain.elements (full_listing b
 
 pub record ShowsFull (s : List ℕ) (r : WireBlock) (f : Found) (e : Both Element Metadata) : Type 0 where
   pub plain : Shows s r f e.first
-  pub metadata : metadata_of s f.item ≡ some (kept e.second)
+  pub metadata : metadata_of s f.item ≡ some (Ok e.second)

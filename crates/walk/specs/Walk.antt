@@ -1,12 +1,12 @@
 -- What a walk has ahead (document 01, section 4), over any buffer, record and state: the elements up to its end or a number. Group by group:
 -- its entry in the table, the dense pass over all its fields, dense nodes, nodes, ways, relations. Plain or full is in the state.
-use Rattle.std.specs.Prelude.{ℕ, zero, suc, ◌-◌, List, Bool, true, false, pos}
+use Rattle.std.specs.Prelude.{ℕ, zero, suc, ◌-◌, List, Bool, true, false, pos, Ok, Err}
 use Rattle.protobuf.specs.declared.refusal.Refusal.TheVariants.{Outside}
 use Rattle.numbers.specs.Choose.{choose}
 use Rattle.protobuf.specs.Stream.{end, more, mapped}
 use Rattle.protobuf.specs.Column.{ended, cut, Column}
 use Rattle.fields.specs.declared.part.Part.{Part}
-use Rattle.fields.specs.Outcome.{Outcome, kept, refused, each}
+use Rattle.fields.specs.Outcome.{Outcome, each}
 use Rattle.fields.specs.Part.{part_by, moved}
 use Rattle.fields.specs.View.{view_in}
 use Rattle.fields.specs.Schema.{dense_nodes, dense_info}
@@ -16,8 +16,6 @@ use Rattle.views.specs.DenseNodes.{dense_nodes_at}
 use Rattle.views.specs.DenseInfo.{dense_info_at}
 use Rattle.groups.specs.Group.{dense_in}
 use Rattle.wire.specs.declared.record.WireBlock.{WireBlock}
-use Rattle.lookup.specs.declared.by_number.GroupRange.{GroupRange}
-use Rattle.lookup.specs.declared.by_number.GroupRange.TheVariants as range
 use Rattle.lookup.specs.Lookup.{group_at, is_record_inside}
 use Rattle.columns.specs.declared.info_rows.InfoColumns.{InfoColumns}
 use Rattle.columns.specs.declared.sums.Sum64.{Sum64}
@@ -56,8 +54,8 @@ more a rest then others = more a (rest then others)
 
 -- a stream behind what is read whole
 abbrev pub behind : {A B : Type 0} → Outcome A → (A → Column B) → Column B
-behind (kept a) others = others a
-behind (refused r) others = end (cut r)
+behind (Ok a) others = others a
+behind (Err r) others = end (cut r)
 
 -- ---- in a group
 
@@ -139,9 +137,9 @@ enter_found full s of message =
     (behind (each (dense_nodes_at message.start) (view_in dense_nodes s message.start message.len)) (enter_dense full s of message))
     (from_nodes s (messages_of full of kind.Nodes))
 
-abbrev pub enter_range : Bool → List ℕ → ℕ → GroupRange → Column Found
-enter_range full s group (range.Refused r) = end (cut r)
-enter_range full s group (range.Range p) =
+abbrev pub enter_range : Bool → List ℕ → ℕ → Outcome Part → Column Found
+enter_range full s group (Err r) = end (cut r)
+enter_range full s group (Ok p) =
     behind (each (moved p.start) (dense_in s p.start p.len)) (enter_found full s (record { group = group; start = p.start; len = p.len }))
 
 -- n groups from a number on

@@ -1,11 +1,11 @@
 -- Demand 3: whole runs over two blocks. A run is the record that the scan gave of an accepted block, the plain walk at its start, and calls of
 -- `step` and `next` in any mix and number over the buffer as the scan left it. Every run hands out the block's listing, element by element,
 -- each with its tags, references and members by every run of their own; and the two listings are equal exactly when the contents are.
-use Rattle.std.specs.Prelude.{ℕ, ◌≡◌, List, false, ℤ, take}
-use Rattle.fields.specs.Outcome.{kept}
+use Rattle.std.specs.Prelude.{ℕ, ◌≡◌, List, false, ℤ, take, Ok, Option}
+use Rattle.fields.specs.declared.part.Part.{Part}
+use Rattle.fields.specs.Outcome.{Outcome}
 use Rattle.wire.specs.declared.record.WireBlock.{WireBlock}
 use Rattle.wire.specs.Scan.{Scanned-as}
-use Rattle.lookup.specs.declared.by_number.Got.{Got}
 use Rattle.block.specs.Check.{passed, checked}
 use Rattle.block.specs.Listing.{Element, Member, listing}
 use Rattle.block.specs.Content.{content}
@@ -118,7 +118,7 @@ after_member (member.Refused r next) = next
 
 -- a member shows the listing's: its id, and the text of its role by every answer that `role_text` may give
 pub record MemberIs (s : List ℕ) (r : WireBlock) (m : RelMember) (e : Member) : Type 0 where
-  pub role : (g : Got) → g ≡ role_at s r m.role → text_of s g ≡ kept e.role
+  pub role : (g : Outcome (Option Part)) → g ≡ role_at s r m.role → text_of s g ≡ Ok e.role
   pub id : id_of m.id ≡ e.id
 
 -- an element shows the listing's, its tags, references and members by every run from their start

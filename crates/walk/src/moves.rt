@@ -11,20 +11,20 @@ use columns::reader::start_column;
 use columns::sums::{start_sum32, start_sum64};
 use columns::zip::RowColumns;
 use fields::part::Part;
-use groups::group::{DenseFound, dense};
+use groups::group::dense;
 use kinds::state::{DenseColumns, GroupRangeAt, Loose, Messages};
-use lookup::by_number::{GroupRange, group};
+use lookup::by_number::group;
 use protobuf::refusal::Refusal;
-use views::dense_info::{DenseInfoParse, WireDenseInfo};
-use views::dense_nodes::{DenseNodesParse, WireDenseNodes};
+use views::dense_info::WireDenseInfo;
+use views::dense_nodes::WireDenseNodes;
+use views::view::View;
 use wire::record::WireBlock;
 
-// What stands at a group's number: a group, with its dense message, present or not; or no group any more.
+// A group, with its dense message, present or not.
 #[derive(Clone, Copy)]
-enum Entry {
-    Group { of: GroupRangeAt, message: Part },
-    Past,
-    Refused(Refusal),
+struct Entry {
+    of: GroupRangeAt,
+    message: Part,
 }
 
 // Before the messages of a kind.
@@ -115,8 +115,8 @@ fn enter_infos(buffer: &[u8], block: WireBlock, nodes: DenseNodeIter, info: Part
 {
     let q = WireDenseInfo::parse(buffer, info.start, info.len);
     match q {
-        DenseInfoParse::Refused(n) => return move_refused(n),
-        DenseInfoParse::Parsed(v) => return begin_infos(nodes, v),
+        Err(n) => return move_refused(n),
+        Ok(v) => return begin_infos(nodes, v),
     }
 }
 
@@ -127,8 +127,8 @@ fn enter_dense(buffer: &[u8], block: WireBlock, full: bool, of: GroupRangeAt, me
 {
     let p = WireDenseNodes::parse(buffer, message.start, message.len);
     match p {
-        DenseNodesParse::Refused(n) => return move_refused(n),
-        DenseNodesParse::Parsed(v) => {
+        Err(n) => return move_refused(n),
+        Ok(v) => {
             let nodes = start_nodes(of, message, v);
             if full {
                 return enter_infos(buffer, block, nodes, v.info);
@@ -138,34 +138,22 @@ fn enter_dense(buffer: &[u8], block: WireBlock, full: bool, of: GroupRangeAt, me
     }
 }
 
-// A group by its number: its entry, then the dense pass over all its fields.
-fn find_group(buffer: &[u8], block: WireBlock, number: usize) -> Entry
+// A group by its number, none behind the last: its entry in the table, then the dense pass over all its fields.
+fn find_group(buffer: &[u8], block: WireBlock, number: usize) -> Result<Option<Entry>, Refusal>
     ensures says { (full : Bool) → entry_ahead full buffer.now block result ≡ groups_from full buffer.now block (block.groups - number) number }
     ensures stands { entry_stands buffer.now block number result ≡ true }
 {
     if block.groups <= number {
-        return Entry::Past;
+        return Ok(None);
     }
-    let g = group(buffer, block, number);
-    match g {
-        GroupRange::Refused(n) => return Entry::Refused(n),
-        GroupRange::Range(p) => {
-            let d = dense(buffer, p.start, p.len);
-            match d {
-                DenseFound::Refused(n) => return Entry::Refused(n),
-                DenseFound::Found(message) => {
-                    return Entry::Group {
-                        of: GroupRangeAt {
-                            group: number,
-                            start: p.start,
-                            len: p.len,
-                        },
-                        message,
-                    };
-                }
-            }
-        }
-    }
+    let range = group(buffer, block, number)?;
+    let message = dense(buffer, range.start, range.len)?;
+    let of = GroupRangeAt {
+        group: number,
+        start: range.start,
+        len: range.len,
+    };
+    Ok(Some(Entry { of, message }))
 }
 
 // Into a group: to its dense nodes, or to its nodes where it has no dense message.
@@ -174,13 +162,13 @@ pub(crate) fn enter(buffer: &[u8], block: WireBlock, at: Between) -> Move
 {
     let e = find_group(buffer, block, at.group);
     match e {
-        Entry::Past => return move_out(),
-        Entry::Refused(n) => return move_refused(n),
-        Entry::Group { of, message } => {
-            if message.present {
-                return enter_dense(buffer, block, at.full, of, message);
+        Ok(None) => return move_out(),
+        Err(n) => return move_refused(n),
+        Ok(Some(found)) => {
+            if found.message.present {
+                return enter_dense(buffer, block, at.full, found.of, found.message);
             }
-            return begin_kind(at.full, of, Loose::Nodes);
+            return begin_kind(at.full, found.of, Loose::Nodes);
         }
     }
 }

@@ -1,9 +1,8 @@
 -- What the loops of a call of the walk promise to each other: the elements that a call hands out are put by several loops, one behind the other.
-use Rattle.std.specs.Prelude.{ℕ, ◌≡◌, List, Bool, true, false}
+use Rattle.std.specs.Prelude.{ℕ, ◌≡◌, List, Bool, true, false, Ok}
 use Rattle.protobuf.specs.declared.column.Column as state
 use Rattle.protobuf.specs.Column.{Column}
 use Rattle.fields.specs.declared.part.Part.{Part}
-use Rattle.fields.specs.Outcome.{kept}
 use Rattle.wire.specs.declared.record.WireBlock.{WireBlock}
 use Rattle.lookup.specs.Lookup.{is_record_inside}
 use Rattle.columns.specs.declared.zip.RowColumns.{RowColumns}
@@ -37,7 +36,7 @@ at_columns d next = record { of = d.of; message = d.message; columns = next }
 -- a message as it is put: where its view keeps it; else the slice is as it was
 abbrev pub PutWhere : List ℕ → Bool → Loose → ℕ → Part → List ℕ → ℕ → Bool → List ℕ → Type 0
 PutWhere s full kind group message out at true after =
-    (e : Element) × ((viewed_as full kind s message ≡ kept (item_of s e)) × (after ≡ filled_at out at (element_words group message e)))
+    (e : Element) × ((viewed_as full kind s message ≡ Ok (item_of s e)) × (after ≡ filled_at out at (element_words group message e)))
 PutWhere s full kind group message out at false after = after ≡ out
 
 pub record MessagePut (s : List ℕ) (full : Bool) (kind : Loose) (group : ℕ) (message : Part) (out : List ℕ) (at : ℕ) (put : Bool) (after : List ℕ) : Type 0 where

@@ -9,14 +9,15 @@ ghost use Rattle.walk_calls.specs.Fills.{MessagePut, Fills, FillsInside};
 
 use answers::words::put_at;
 use fields::part::Part;
-use groups::group::{MessagePlace, MessageStep, WireMessageIter};
+use groups::group::{MessagePlace, WireMessageIter};
 use kinds::messages::{field_of, info_in};
 use kinds::state::{Loose, Messages};
 use layouts::messages::{node_numbers, relation_numbers, way_numbers};
 use lookup::by_number::is_inside;
-use views::node::{NodeParse, WireNode};
-use views::relation::{RelationParse, WireRelation};
-use views::way::{WayParse, WireWay};
+use views::node::WireNode;
+use views::relation::WireRelation;
+use views::view::View;
+use views::way::WireWay;
 use walk::inside::group_inside;
 use wire::record::WireBlock;
 
@@ -40,7 +41,7 @@ fn put_node(
     ensures { MessagePut buffer.now full Nodes group message out.old at result out.new }
 {
     let p = WireNode::parse(buffer, message.start, message.len);
-    let NodeParse::Parsed(v) = p else {
+    let Ok(v) = p else {
         return false;
     };
     let mut shown = v;
@@ -69,7 +70,7 @@ fn put_way(
     ensures { MessagePut buffer.now full Ways group message out.old at result out.new }
 {
     let p = WireWay::parse(buffer, message.start, message.len);
-    let WayParse::Parsed(v) = p else {
+    let Ok(v) = p else {
         return false;
     };
     let mut shown = v;
@@ -98,7 +99,7 @@ fn put_relation(
     ensures { MessagePut buffer.now full Relations group message out.old at result out.new }
 {
     let p = WireRelation::parse(buffer, message.start, message.len);
-    let RelationParse::Parsed(v) = p else {
+    let Ok(v) = p else {
         return false;
     };
     let mut shown = v;
@@ -151,8 +152,8 @@ fn fill_messages(buffer: &[u8], m: Messages, out: &mut [u8], most: usize) -> Mes
             at,
             field,
         };
-        let r = WireMessageIter::At(place).step(buffer);
-        let MessageStep::Message { part, next: _ } = r else {
+        let step = WireMessageIter::At(place).step(buffer);
+        let Ok(Some(part)) = step.said else {
             return MessagesFilled { count, at };
         };
         if !put_message(buffer, m.full, kind, of.group, part, out, 208 * count) {

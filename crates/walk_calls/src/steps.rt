@@ -12,7 +12,7 @@ ghost use Rattle.walk_calls.specs.Steps.{found_by, put_words, ElementsIn, walk_i
 use crate::messages::put_messages_of;
 use crate::nodes::put_nodes_of;
 use answers::codes::{ENDED, OUTSIDE};
-use answers::record::{RecordIn, record_in};
+use answers::record::record_in;
 use calls::room::{Counted, one_room, put_count, room_for};
 use kinds::state::Messages;
 use layouts::element::put_element;
@@ -251,13 +251,13 @@ fn steps_into(buffer: &[u8], rec: &[u8], slot: &mut [u8], out: &mut [u8], most: 
     }
     let r = record_in(rec);
     match r {
-        RecordIn::Outside => {
+        Err(_) => {
             return Counted {
                 code: none_into(slot),
                 count: 0,
             };
         }
-        RecordIn::Record(block) => return block_into(buffer, block, slot, out, most),
+        Ok(block) => return block_into(buffer, block, slot, out, most),
     }
 }
 

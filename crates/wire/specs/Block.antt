@@ -2,9 +2,6 @@
 use Rattle.std.specs.Prelude.{ℕ, List, [], ◌∷◌}
 use Rattle.numbers.specs.Choose.{choose}
 use Rattle.wire.specs.declared.primitive_block.BlockFields.{BlockFields}
-use Rattle.wire.specs.declared.primitive_block.BlockStored.{BlockStored}
-use Rattle.wire.specs.declared.primitive_block.BlockStored.TheVariants as stored
-use Rattle.fields.specs.Outcome.{Outcome, kept, refused}
 use Rattle.fields.specs.declared.slot.Slot.{Slot}
 use Rattle.fields.specs.View.{Slots}
 use Rattle.message.specs.Message.{message}
@@ -26,15 +23,6 @@ block_fields slots =
       latoffset = (slots 19).value;
       lonoffset = (slots 20).value;
     }
-
-abbrev pub kept_block : BlockStored → Outcome BlockFields
-kept_block (stored.Kept v) = kept v
-kept_block (stored.Refused r) = refused r
-
--- how many groups there are
-abbrev pub groups_of : BlockStored → ℕ
-groups_of (stored.Kept v) = v.groups
-groups_of (stored.Refused r) = 0
 
 -- the last of some parts, or another where there are none
 unfoldable pub last_of : Part → List Part → Part

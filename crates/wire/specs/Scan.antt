@@ -1,6 +1,6 @@
 -- The scan of a block at the start of a buffer (document 01, section 2): 14, then 1, then the block's own fields, then the chosen string
 -- table, then 13. It gives the record and the tables, which go right behind the block; a refusal writes nothing.
-use Rattle.std.specs.Prelude.{ℕ, ◌+◌, ◌*◌, ◌≤◌, ◌≡◌, List, ◌++◌, length, take, drop, leb}
+use Rattle.std.specs.Prelude.{ℕ, ◌+◌, ◌*◌, ◌≤◌, ◌≡◌, List, ◌++◌, length, take, drop, leb, Ok, Err}
 use Rattle.protobuf.specs.declared.refusal.Refusal.TheVariants.{BlockTooLong, NoRoom, Outside}
 use Rattle.numbers.specs.Choose.{choose}
 use Rattle.numbers.specs.Signed.{twos}
@@ -8,11 +8,7 @@ use Rattle.numbers.specs.Little.{written}
 use Rattle.message.specs.Message.{message}
 use Rattle.wire.specs.declared.record.WireBlock.{WireBlock}
 use Rattle.wire.specs.declared.primitive_block.BlockFields.{BlockFields}
-use Rattle.wire.specs.declared.scan.Count.{Count}
-use Rattle.wire.specs.declared.scan.Count.TheVariants as count
-use Rattle.wire.specs.declared.scan.BlockScan.{BlockScan}
-use Rattle.wire.specs.declared.scan.BlockScan.TheVariants as scan
-use Rattle.fields.specs.Outcome.{Outcome, kept, refused, onward}
+use Rattle.fields.specs.Outcome.{Outcome, onward}
 use Rattle.fields.specs.View.{Slots, view}
 use Rattle.fields.specs.Schema.{primitive_block, string_table}
 use Rattle.wire.specs.Block.{block_fields}
@@ -58,8 +54,8 @@ meta x = x.block
 unfoldable pub tables_stage : ℕ → ℕ → List ℕ → BlockFields → ℕ → Outcome Scanned
 tables_stage n block bytes top strings =
     choose (leb (block + length (tables bytes top)) n)
-    (kept (record { block = record_by block top strings; table = tables bytes top }))
-    (refused NoRoom)
+    (Ok (record { block = record_by block top strings; table = tables bytes top }))
+    (Err NoRoom)
 
 -- the stage before: the chosen string table is read whole
 unfoldable pub strings_stage : ℕ → ℕ → List ℕ → BlockFields → Outcome Scanned
@@ -73,38 +69,30 @@ fields_stage n block bytes = onward (view primitive_block bytes) λ slots. strin
 unfoldable pub scanned : List ℕ → ℕ → Outcome Scanned
 scanned s block =
     choose (leb block (length s))
-    (choose (leb block limit) (fields_stage (length s) block (take block s)) (refused BlockTooLong))
-    (refused Outside)
+    (choose (leb block limit) (fields_stage (length s) block (take block s)) (Err BlockTooLong))
+    (Err Outside)
 
 -- what the first two stages have read, for the code of the next
 pub record FieldsRead (s : List ℕ) (block : ℕ) (top : BlockFields) : Type 0 where
   pub inside : block ≤ length s
   pub slots : Slots
   pub is : top ≡ block_fields slots
-  pub so : view primitive_block (take block s) ≡ kept slots
+  pub so : view primitive_block (take block s) ≡ Ok slots
 
 pub record StringsRead (s : List ℕ) (block : ℕ) (top : BlockFields) (strings : ℕ) : Type 0 where
   pub before : FieldsRead s block top
   pub slots : Slots
   pub is : strings ≡ string_count slots
-  pub so : view string_table (string_bytes (take block s) top) ≡ kept slots
+  pub so : view string_table (string_bytes (take block s) top) ≡ Ok slots
 
 -- the buffer after a scan
 abbrev pub after_scan : List ℕ → ℕ → Outcome Scanned → List ℕ
-after_scan s block (kept x) = written s block x.table
-after_scan s block (refused r) = s
+after_scan s block (Ok x) = written s block x.table
+after_scan s block (Err r) = s
 
 -- s and r are the buffer and the record as a scan of the first n bytes of b left them
 pub record Scanned-as (s : List ℕ) (r : WireBlock) (b : List ℕ) (n : ℕ) : Type 0 where
   pub scan : Scanned
-  pub so : scanned b n ≡ kept scan
+  pub so : scanned b n ≡ Ok scan
   pub buffer : s ≡ written b n (scan).table
   pub meta : r ≡ (scan).block
-
-abbrev pub counted : Count → Outcome ℕ
-counted (count.Counted n) = kept n
-counted (count.Refused r) = refused r
-
-abbrev pub scanned_record : BlockScan → Outcome WireBlock
-scanned_record (scan.Scanned r) = kept r
-scanned_record (scan.Refused r) = refused r

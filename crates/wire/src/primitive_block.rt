@@ -1,10 +1,10 @@
 // PrimitiveBlock: the block's own fields.
-ghost use Rattle.std.specs.Prelude.{◌≡◌, ◌+◌, ◌^◌, ◌≤◌, ◌<◌};
+ghost use Rattle.std.specs.Prelude.{◌≡◌, ◌+◌, ◌^◌, ◌≤◌, ◌<◌, IfOk};
 ghost use Rattle.message.specs.Answers.{field_by};
 ghost use Rattle.fields.specs.Outcome.{each};
 ghost use Rattle.fields.specs.View.{Slots, store, view};
 ghost use Rattle.fields.specs.Schema.{primitive_block};
-ghost use Rattle.wire.specs.Block.{block_fields, kept_block, groups_of};
+ghost use Rattle.wire.specs.Block.{block_fields};
 
 use fields::part::{NONE, Part};
 use fields::schema::primitive_block;
@@ -23,65 +23,61 @@ pub struct BlockFields {
     pub lonoffset: u64,
 }
 
-#[derive(Clone, Copy)]
-pub enum BlockStored {
-    Kept(BlockFields),
-    Refused(Refusal),
-}
-
 // One field, by its number with its wire type; any other pair is passed over. The last string table wins.
-fn store_block(v: BlockFields, tag: u32, value: u64, start: usize, len: usize) -> BlockStored
+fn store_block(v: BlockFields, field: Field) -> Result<BlockFields, Refusal>
     requires { v.groups + 1 < 2 ^ 64 }
-    ensures stores { (slots : Slots) → v ≡ block_fields slots → kept_block result ≡ each block_fields (store primitive_block slots (field_by tag value start len)) }
-    ensures counts { groups_of result ≤ v.groups + 1 }
+    ensures stores { (slots : Slots) → v ≡ block_fields slots → result ≡ each block_fields (store primitive_block slots (field_by field.tag field.value field.start field.len)) }
+    ensures counts { IfOk result λ w. w.groups ≤ v.groups + 1 }
 {
-    let mut w = v;
-    match tag {
+    let value = field.value;
+    match field.tag {
         primitive_block::STRING_TABLE => {
-            let part = Part {
+            let strings = Part {
                 present: true,
-                start,
-                len,
+                start: field.start,
+                len: field.len,
             };
-            w.strings = part;
-            BlockStored::Kept(w)
+            Ok(BlockFields { strings, ..v })
         }
-        primitive_block::GROUP => {
-            let groups = v.groups + 1;
-            w.groups = groups;
-            BlockStored::Kept(w)
-        }
+        primitive_block::GROUP => Ok(BlockFields {
+            groups: v.groups + 1,
+            ..v
+        }),
         primitive_block::GRANULARITY => {
             if is_int32(value) {
-                w.granularity = value;
-                BlockStored::Kept(w)
+                Ok(BlockFields {
+                    granularity: value,
+                    ..v
+                })
             } else {
-                BlockStored::Refused(Refusal::Granularity)
+                Err(Refusal::Granularity)
             }
         }
         primitive_block::DATE_GRANULARITY => {
             if is_int32(value) {
-                w.dategranularity = value;
-                BlockStored::Kept(w)
+                Ok(BlockFields {
+                    dategranularity: value,
+                    ..v
+                })
             } else {
-                BlockStored::Refused(Refusal::Granularity)
+                Err(Refusal::Granularity)
             }
         }
-        primitive_block::LAT_OFFSET => {
-            w.latoffset = value;
-            BlockStored::Kept(w)
-        }
-        primitive_block::LON_OFFSET => {
-            w.lonoffset = value;
-            BlockStored::Kept(w)
-        }
-        _ => BlockStored::Kept(w),
+        primitive_block::LAT_OFFSET => Ok(BlockFields {
+            latoffset: value,
+            ..v
+        }),
+        primitive_block::LON_OFFSET => Ok(BlockFields {
+            lonoffset: value,
+            ..v
+        }),
+        _ => Ok(v),
     }
 }
 
 // The block's fields, one after the other.
-pub fn scan_block_fields(s: &[u8]) -> BlockStored
-    ensures { kept_block result ≡ each block_fields (view primitive_block s.now) }
+pub fn scan_block_fields(s: &[u8]) -> Result<BlockFields, Refusal>
+    ensures { result ≡ each block_fields (view primitive_block s.now) }
 {
     let mut v = BlockFields {
         strings: NONE,
@@ -92,28 +88,9 @@ pub fn scan_block_fields(s: &[u8]) -> BlockStored
         lonoffset: 0,
     };
     let mut at = 0;
-    loop {
-        let f = next_field(s, at);
-        match f {
-            Field::Complete => return BlockStored::Kept(v),
-            Field::Cut(n) => return BlockStored::Refused(n),
-            Field::Spoilt { tag: _, refusal } => return BlockStored::Refused(refusal),
-            Field::Read {
-                tag,
-                value,
-                start,
-                len,
-                next,
-            } => {
-                let r = store_block(v, tag, value, start, len);
-                match r {
-                    BlockStored::Refused(n) => return BlockStored::Refused(n),
-                    BlockStored::Kept(w) => {
-                        v = w;
-                        at = next;
-                    }
-                }
-            }
-        }
+    while let Some((field, next)) = next_field(s, at)? {
+        v = store_block(v, field)?;
+        at = next;
     }
+    Ok(v)
 }

@@ -1,63 +1,36 @@
 // The scan of a block: its own fields and its chosen string table are read whole, and the tables are written behind it.
-ghost use Rattle.std.specs.Prelude.{◌≡◌, ◌+◌, ◌*◌, ◌^◌, ◌≤◌, ◌<◌, leb, length, take};
+ghost use Rattle.std.specs.Prelude.{◌≡◌, ◌+◌, ◌*◌, ◌^◌, ◌≤◌, ◌<◌, leb, length, take, Err};
 ghost use Rattle.protobuf.specs.declared.refusal.Refusal.TheVariants.{NoRoom};
-ghost use Rattle.fields.specs.Outcome.{each, refused};
+ghost use Rattle.fields.specs.Outcome.{each};
 ghost use Rattle.fields.specs.View.{view};
 ghost use Rattle.fields.specs.Schema.{string_table};
-ghost use Rattle.wire.specs.Scan.{scanned, string_count, after_scan, counted, scanned_record, record_by, tables_stage, strings_stage, FieldsRead, StringsRead, meta};
+ghost use Rattle.wire.specs.Scan.{scanned, string_count, after_scan, record_by, tables_stage, strings_stage, FieldsRead, StringsRead, meta};
 
-use crate::primitive_block::{BlockFields, BlockStored, scan_block_fields};
+use crate::primitive_block::{BlockFields, scan_block_fields};
 use crate::record::WireBlock;
 use crate::tables::write_entries;
 use fields::schema::primitive_block::GROUP;
 use fields::schema::string_table::STRINGS;
-use message::field::{Field, next_field};
+use message::field::next_field;
 use numbers::signed::{int32, int64};
 use protobuf::refusal::Refusal;
 
 // The longest block that is scanned.
 pub const LIMIT: usize = 33554432;
 
-#[derive(Clone, Copy)]
-pub enum Count {
-    Counted(usize),
-    Refused(Refusal),
-}
-
-#[derive(Clone, Copy)]
-pub enum BlockScan {
-    Scanned(WireBlock),
-    Refused(Refusal),
-}
-
 // How many strings a string table has.
-fn count_strings(s: &[u8]) -> Count
-    ensures { counted result ≡ each string_count (view string_table s.now) }
+fn count_strings(s: &[u8]) -> Result<usize, Refusal>
+    ensures { result ≡ each string_count (view string_table s.now) }
 {
     let mut n = 0;
     let mut at = 0;
-    loop {
-        let f = next_field(s, at);
-        match f {
-            Field::Complete => return Count::Counted(n),
-            Field::Cut(r) => return Count::Refused(r),
-            Field::Spoilt { tag: _, refusal } => return Count::Refused(refusal),
-            Field::Read {
-                tag,
-                value: _,
-                start: _,
-                len: _,
-                next,
-            } => {
-                if tag == STRINGS {
-                    n += 1;
-                    at = next;
-                } else {
-                    at = next;
-                }
-            }
+    while let Some((field, next)) = next_field(s, at)? {
+        if field.tag == STRINGS {
+            n += 1;
         }
+        at = next;
     }
+    Ok(n)
 }
 
 // Whether `n` bytes have room behind a block for both tables.
@@ -92,9 +65,14 @@ fn record_of(block: usize, top: BlockFields, strings: usize) -> WireBlock
 }
 
 // The third stage: 13 where there is no room for the tables, else they are written.
-fn inline_tables(buffer: &mut [u8], block: usize, top: BlockFields, strings: usize) -> BlockScan
+fn inline_tables(
+    buffer: &mut [u8],
+    block: usize,
+    top: BlockFields,
+    strings: usize,
+) -> Result<WireBlock, Refusal>
     requires { StringsRead buffer.old block top strings }
-    ensures answer { scanned_record result ≡ each meta (tables_stage (length buffer.old) block (take block buffer.old) top strings) }
+    ensures answer { result ≡ each meta (tables_stage (length buffer.old) block (take block buffer.old) top strings) }
     ensures after { buffer.new ≡ after_scan buffer.old block (tables_stage (length buffer.old) block (take block buffer.old) top strings) }
 {
     let groups = top.groups;
@@ -103,46 +81,40 @@ fn inline_tables(buffer: &mut [u8], block: usize, top: BlockFields, strings: usi
         let place = block + 8 * strings;
         write_entries(buffer, part.start, part.len, STRINGS, block);
         write_entries(buffer, 0, block, GROUP, place);
-        BlockScan::Scanned(record_of(block, top, strings))
+        Ok(record_of(block, top, strings))
     } else {
-        BlockScan::Refused(Refusal::NoRoom)
+        Err(Refusal::NoRoom)
     }
 }
 
 // The second stage: the chosen string table is read whole.
-fn scan_strings(buffer: &mut [u8], block: usize, top: BlockFields) -> BlockScan
+fn scan_strings(buffer: &mut [u8], block: usize, top: BlockFields) -> Result<WireBlock, Refusal>
     requires { FieldsRead buffer.old block top }
-    ensures answer { scanned_record result ≡ each meta (strings_stage (length buffer.old) block (take block buffer.old) top) }
+    ensures answer { result ≡ each meta (strings_stage (length buffer.old) block (take block buffer.old) top) }
     ensures after { buffer.new ≡ after_scan buffer.old block (strings_stage (length buffer.old) block (take block buffer.old) top) }
 {
     let part = top.strings;
     let start = part.start;
     let end = start + part.len;
-    let c = count_strings(&buffer[start..end]);
-    match c {
-        Count::Refused(n) => BlockScan::Refused(n),
-        Count::Counted(n) => inline_tables(buffer, block, top, n),
-    }
+    let strings = count_strings(&buffer[start..end])?;
+    inline_tables(buffer, block, top, strings)
 }
 
 // The block in the first `block` bytes: 14 where the length passes the buffer, 1 where it is above the limit; then, in three stages, the
 // refusals of all its fields (8 among them), those of its last string table, and 13 where the tables have no room behind it. The tables are
 // written right behind the block, and no other byte changes; a refusal writes nothing. A buffer of five times the block's bytes is never too
 // short.
-pub fn scan(buffer: &mut [u8], block: usize) -> BlockScan
-    ensures answer { scanned_record result ≡ each meta (scanned buffer.old block) }
+pub fn scan(buffer: &mut [u8], block: usize) -> Result<WireBlock, Refusal>
+    ensures answer { result ≡ each meta (scanned buffer.old block) }
     ensures after { buffer.new ≡ after_scan buffer.old block (scanned buffer.old block) }
-    ensures room { 5 * block ≤ length buffer.old → scanned_record result ≡ refused NoRoom → ⊥ }
+    ensures room { 5 * block ≤ length buffer.old → result ≡ Err NoRoom → ⊥ }
 {
     if buffer.len() < block {
-        return BlockScan::Refused(Refusal::Outside);
+        return Err(Refusal::Outside);
     }
     if LIMIT < block {
-        return BlockScan::Refused(Refusal::BlockTooLong);
+        return Err(Refusal::BlockTooLong);
     }
-    let top = scan_block_fields(&buffer[..block]);
-    match top {
-        BlockStored::Refused(n) => BlockScan::Refused(n),
-        BlockStored::Kept(v) => scan_strings(buffer, block, v),
-    }
+    let top = scan_block_fields(&buffer[..block])?;
+    scan_strings(buffer, block, top)
 }

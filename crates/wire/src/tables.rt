@@ -4,7 +4,7 @@ ghost use Rattle.numbers.specs.Little.{written};
 ghost use Rattle.message.specs.Message.{message};
 ghost use Rattle.wire.specs.Tables.{entry, entries, Room};
 
-use message::field::{Field, next_field};
+use message::field::next_field;
 use numbers::little::write_u32;
 
 // One entry, at the start of the tail that is lent: the lowest 4 bytes of each number, which are all that an offset or a length within a
@@ -26,28 +26,12 @@ pub(crate) fn write_entries(buffer: &mut [u8], base: usize, len: usize, tag: u32
     let end = base + len;
     let mut place = to;
     let mut at = 0;
-    loop {
-        let f = next_field(&buffer[base..end], at);
-        match f {
-            Field::Complete => return,
-            Field::Cut(_) => return,
-            Field::Spoilt { tag: _, refusal: _ } => return,
-            Field::Read {
-                tag: t,
-                value: _,
-                start,
-                len: n,
-                next,
-            } => {
-                if t == tag {
-                    let offset = base + start;
-                    write_entry(&mut buffer[place..], offset, n);
-                    place += 8;
-                    at = next;
-                } else {
-                    at = next;
-                }
-            }
+    while let Some((field, next)) = next_field(&buffer[base..end], at).unwrap_or(None) {
+        if field.tag == tag {
+            let offset = base + field.start;
+            write_entry(&mut buffer[place..], offset, field.len);
+            place += 8;
         }
+        at = next;
     }
 }

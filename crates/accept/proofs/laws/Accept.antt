@@ -1,5 +1,6 @@
 -- The check by a record: the group table's entries one after the other; and on the buffer and the record that a scan left, they name the
 -- block's groups, so that the check is that of the block's own bytes.
+use Rattle.std.specs.Prelude.{Ok, Err}
 use Prim.Native.Nat.{ℕ, suc, ◌+◌, ◌-◌, ◌*◌, ◌≤◌, ◌<◌}
 use mathlib.Core.Path.{◌≡◌, refl, sym, ap, ◌∙◌}
 use mathlib.Core.List.{List, ◌∷◌, map}
@@ -12,11 +13,9 @@ use Rattle.protobuf.specs.declared.refusal.Refusal.TheVariants.{Outside}
 use Rattle.numbers.specs.Choose.{choose}
 use Rattle.protobuf.proofs.laws.Stream.{none_left}
 use Rattle.fields.specs.declared.part.Part.{Part}
-use Rattle.fields.specs.Outcome.{Outcome, kept, refused, onward}
+use Rattle.fields.specs.Outcome.{Outcome, onward}
 use Rattle.fields.proofs.laws.Outcome.{went}
 use Rattle.wire.specs.declared.record.WireBlock.{WireBlock}
-use Rattle.lookup.specs.declared.by_number.GroupRange.{GroupRange}
-use Rattle.lookup.specs.declared.by_number.GroupRange.TheVariants as range
 use Rattle.lookup.specs.Lookup.{entry_at, is_record_inside, group_at, group_parts}
 use Rattle.wire.specs.Scan.{Scanned-as}
 use Rattle.lookup.proofs.laws.Named.{Named, no_more, names}
@@ -56,7 +55,7 @@ module _ {f : Part → Outcome Unit} {s : List ℕ} {r : WireBlock} {i : ℕ} (w
         let one_more : r.groups - i ≡ suc (r.groups - (i + 1)) = omega arith in
         w.so ∙ ap (λ (n : ℕ). all f (parts_at s (r.grouptable + 8 * i) n)) one_more
 
-    pub entries-refused : {n : Refusal} → f this ≡ refused n → all f (groups_in s r) ≡ refused n
+    pub entries-refused : {n : Refusal} → f this ≡ Err n → all f (groups_in s r) ≡ Err n
     entries-refused g = here ∙ all-refused f _ _ g
 
     pub entries-on : f this ≡ passed → Entries f s r (i + 1)
@@ -71,14 +70,10 @@ module _ {f : Part → Outcome Unit} {s : List ℕ} {r : WireBlock} {i : ℕ} (w
 
 -- ---- the answer of `group` for a number below the count
 
-range_of : GroupRange → Outcome Part
-range_of (range.Range p) = kept p
-range_of (range.Refused n) = refused n
-
 inside_is : (s : List ℕ) (p : Part) → inside_of s p ≡ passed → is_inside s p ≡ true
 inside_is s p e = by (is_inside s p) e
   where
-    by : (b : Bool) → choose b passed (refused Outside) ≡ passed → b ≡ true
+    by : (b : Bool) → choose b passed (Err Outside) ≡ passed → b ≡ true
     by true g = refl
     by false g = absurd (let z : ◌≡◌ {A = ℕ} 0 1 = cc in omega arith)
 
@@ -86,40 +81,33 @@ module _ (s : List ℕ) (r : WireBlock) (i : ℕ) (inside : is_record_inside s r
   abbrev that : Part
   that = entry_at s (r.grouptable + 8 * i)
 
-  answered : (b : Bool) {x : GroupRange} → choose b (range.Range that) (range.Refused Outside) ≡ x → choose b (kept that) (refused Outside) ≡ range_of x
-  unfolding range_of
-  answered true e = ap range_of e
-  answered false e = ap range_of e
-
-  answer : {x : GroupRange} → group_at s r i ≡ x → choose (is_inside s that) (kept that) (refused Outside) ≡ range_of x
+  answer : {x : Outcome Part} → group_at s r i ≡ x → choose (is_inside s that) (Ok that) (Err Outside) ≡ x
   unfolding group_at
-  answer e = answered (is_inside s that) (sym (simp (inside, lt-ltb _ _ below)) ∙ e)
+  answer e = sym (simp (inside, lt-ltb _ _ below)) ∙ e
 
-  pub range-refused : {n : Refusal} → group_at s r i ≡ range.Refused n → inside_of s that ≡ refused n
-  unfolding range_of
+  pub range-refused : {n : Refusal} → group_at s r i ≡ Err n → inside_of s that ≡ Err n
   range-refused e = by (is_inside s that) (answer e)
     where
-      by : {n : Refusal} (b : Bool) → choose b (kept that) (refused Outside) ≡ refused n → choose b passed (refused Outside) ≡ refused n
+      by : {n : Refusal} (b : Bool) → choose b (Ok that) (Err Outside) ≡ Err n → choose b passed (Err Outside) ≡ Err n
       by true g = absurd (let z : ◌≡◌ {A = ℕ} 0 1 = cc in omega arith)
-      by false g = ap (λ (n : Refusal). refused n) cc
+      by false g = ap (λ (n : Refusal). Err n) cc
 
-  pub range-found : {p : Part} → group_at s r i ≡ range.Range p → (p ≡ that) × (inside_of s that ≡ passed)
-  unfolding range_of
+  pub range-found : {p : Part} → group_at s r i ≡ Ok p → (p ≡ that) × (inside_of s that ≡ passed)
   range-found e = by (is_inside s that) (answer e)
     where
-      by : {p : Part} (b : Bool) → choose b (kept that) (refused Outside) ≡ kept p → (p ≡ that) × (choose b passed (refused Outside) ≡ passed)
+      by : {p : Part} (b : Bool) → choose b (Ok that) (Err Outside) ≡ Ok p → (p ≡ that) × (choose b passed (Err Outside) ≡ passed)
       by true g = (sym cc, refl)
       by false g = absurd (let z : ◌≡◌ {A = ℕ} 0 1 = cc in omega arith)
 
   -- the bytes of the range that was found
-  pub range-bytes : {p : Part} → group_at s r i ≡ range.Range p → bytes_of s p ≡ bytes_in s that
+  pub range-bytes : {p : Part} → group_at s r i ≡ Ok p → bytes_of s p ≡ bytes_in s that
   unfolding bytes_of
   range-bytes e =
       let found = range-found e in
       ap (bytes_of s) found.0 ∙ simp (inside_is s that found.1)
 
 -- where all ranges are inside, none is refused
-pub range-not-refused : {s : List ℕ} {r : WireBlock} {i : ℕ} → Entries (inside_of s) s r i → is_record_inside s r ≡ true → all (inside_of s) (groups_in s r) ≡ passed → i < r.groups → {n : Refusal} → group_at s r i ≡ range.Refused n → ⊥
+pub range-not-refused : {s : List ℕ} {r : WireBlock} {i : ℕ} → Entries (inside_of s) s r i → is_record_inside s r ≡ true → all (inside_of s) (groups_in s r) ≡ passed → i < r.groups → {n : Refusal} → group_at s r i ≡ Err n → ⊥
 range-not-refused {s} {r} {i} w inside pass below e =
     let both = sym (entries_pass w below pass) ∙ range-refused s r i inside below e in
     let z : ◌≡◌ {A = ℕ} 0 1 = cc in
@@ -128,7 +116,7 @@ range-not-refused {s} {r} {i} w inside pass below e =
 -- ---- the check by its stages
 
 module _ (s : List ℕ) (r : WireBlock) where
-  pub checked-outside : is_record_inside s r ≡ false → checked_in s r ≡ refused Outside
+  pub checked-outside : is_record_inside s r ≡ false → checked_in s r ≡ Err Outside
   unfolding checked_in
   checked-outside e = simp e
 
@@ -137,7 +125,7 @@ module _ (s : List ℕ) (r : WireBlock) where
     unfolding checked_in
     stages = simp e
 
-    pub ranges_refused : {n : Refusal} → all (inside_of s) (groups_in s r) ≡ refused n → checked_in s r ≡ refused n
+    pub ranges_refused : {n : Refusal} → all (inside_of s) (groups_in s r) ≡ Err n → checked_in s r ≡ Err n
     ranges_refused g = stages ∙ on-refused _ g
 
     pub ranges_passed : all (inside_of s) (groups_in s r) ≡ passed → checked_in s r ≡ all (group_at_part s) (groups_in s r)
@@ -155,7 +143,7 @@ module _ {s : List ℕ} {n : ℕ} where
   unfolding all
   named-inside no_more h = refl
   named-inside (names {p = p} g k rest) h =
-      on-kept _ (ap (λ (b : Bool). choose b passed (refused Outside)) (le-leb (p.start + p.len) (length s) (omega arith))) ∙ named-inside rest h
+      on-kept _ (ap (λ (b : Bool). choose b passed (Err Outside)) (le-leb (p.start + p.len) (length s) (omega arith))) ∙ named-inside rest h
 
   named-same : (block : List ℕ) → ((p : Part) → p.start + p.len ≤ n → bytes_in s p ≡ bytes_in block p) → {place : ℕ} {ps : List Part} → Named s n place ps → all (group_at_part s) ps ≡ all check_group (map (bytes_in block) ps)
   unfolding all

@@ -1,4 +1,5 @@
 -- A group's messages of one field, one after the other; and its dense message, which is a part of it.
+use Rattle.std.specs.Prelude.{Ok, Err}
 use Prim.Native.Nat.{ℕ, ◌+◌, ◌-◌, ◌/◌, ◌%◌, ◌≤◌, ◌<◌}
 use mathlib.Core.Path.{◌≡◌, refl, sym, ap, ◌∙◌}
 use mathlib.Core.List.{List, [], ◌∷◌, ◌++◌, map}
@@ -15,7 +16,7 @@ use Rattle.message.specs.Message.{Field, MessageEnd, Message, message, message_f
 use Rattle.message.specs.Answers.{field_by}
 use Rattle.message.proofs.laws.Message.{message-from, fields-forward, field-within}
 use Rattle.fields.specs.declared.part.Part.{Part}
-use Rattle.fields.specs.Outcome.{Outcome, kept, refused, onward, each}
+use Rattle.fields.specs.Outcome.{Outcome, onward, each}
 use Rattle.fields.proofs.laws.Outcome.{each-kept, each-refused}
 use Rattle.block.specs.Check.{passed, all, check_dense, check_found, check_loose, check_group}
 use Rattle.accept.specs.Accept.{element_of}
@@ -68,7 +69,7 @@ module _ {check : List ℕ → Outcome Unit} {tag : ℕ} {s : List ℕ} {p : ℕ
       lent-passes : {x : Outcome Unit} → check (lent s start len) ≡ x → check (take len (drop start s)) ≡ x
       lent-passes g = ap check (sym (lent_is s start len)) ∙ g
 
-      pub passing-refused : {n : Refusal} → check (lent s start len) ≡ refused n → all check (messages_of (tag / 8) s) ≡ refused n
+      pub passing-refused : {n : Refusal} → check (lent s start len) ≡ Err n → all check (messages_of (tag / 8) s) ≡ Err n
       passing-refused g = own ∙ all-refused check _ _ (lent-passes g)
 
       pub passing-on : check (lent s start len) ≡ passed → Passing check tag s q
@@ -96,7 +97,7 @@ module _ (s : List ℕ) where
   unfolding dense_in
   dense-whole = simp (le-leb (0 + length s) (length s) (omega arith), take_all (length s) s (omega arith))
 
-  pub pass_refused : {n : Refusal} → each (moved 0) (dense_in s 0 (length s)) ≡ refused n → check_group s ≡ refused n
+  pub pass_refused : {n : Refusal} → each (moved 0) (dense_in s 0 (length s)) ≡ Err n → check_group s ≡ Err n
   unfolding check_group
   pass_refused e = on-refused _ (sym dense-whole ∙ each-refused (moved 0) (dense_in s 0 (length s)) e)
 
@@ -116,11 +117,11 @@ module _ (s : List ℕ) where
   unfolding all
   no-dense x e = ap (λ (b : Bool). all check_dense (choose b (bytes_of s x ∷ []) [])) e
 
-  module _ {p : Part} (e : each (moved 0) (dense_in s 0 (length s)) ≡ kept p) where
-    found : (q : Part) × (dense_in s 0 (length s) ≡ kept q) × (moved 0 q ≡ p)
+  module _ {p : Part} (e : each (moved 0) (dense_in s 0 (length s)) ≡ Ok p) where
+    found : (q : Part) × (dense_in s 0 (length s) ≡ Ok q) × (moved 0 q ≡ p)
     found = each-kept (moved 0) (dense_in s 0 (length s)) e
 
-    so-found : dense_from no_part (message s) ≡ kept found.0
+    so-found : dense_from no_part (message s) ≡ Ok found.0
     so-found = sym dense-whole ∙ found.1
 
     stands : Stands found.0
@@ -140,7 +141,7 @@ module _ (s : List ℕ) where
     unfolding check_group
     behind = on-kept _ so-found ∙ ap (λ (x : Outcome Unit). onward x λ u. check_loose s) is_found
 
-    pub found-refused : {n : Refusal} → by_part p ≡ refused n → check_group s ≡ refused n
+    pub found-refused : {n : Refusal} → by_part p ≡ Err n → check_group s ≡ Err n
     found-refused h = behind ∙ on-refused _ h
 
     pub found_passed : by_part p ≡ passed → check_group s ≡ check_loose s

@@ -1,4 +1,5 @@
 -- Laws of codes and of what an answer's slice is left as: too short for the answer, or long enough and then by the outcome.
+use Rattle.std.specs.Prelude.{Ok, Err}
 use Prim.Native.Nat.{ℕ, ◌*◌, ◌≤◌, ◌<◌}
 use mathlib.Core.Path.{◌≡◌, refl, ap, ◌∙◌}
 use mathlib.Core.List.{List}
@@ -9,7 +10,7 @@ use borrow.Author.Tests.{le-leb, lt-leb}
 use Rattle.protobuf.specs.declared.refusal.Refusal.{Refusal}
 use Rattle.numbers.specs.Choose.{choose}
 use Rattle.protobuf.specs.Refusal.{number}
-use Rattle.fields.specs.Outcome.{Outcome, kept, refused}
+use Rattle.fields.specs.Outcome.{Outcome}
 use Rattle.answers.specs.Words.{filled}
 use Rattle.answers.specs.Codes.{answer_code, answer_after}
 use Rattle.answers.proofs.laws.Words.{put-short}
@@ -32,11 +33,11 @@ module _ {A : Type 0} (n : ℕ) (f : A → List ℕ) (out : List ℕ) where
   answer-short size x h = (too_short (8 * n) out _ 14 h, untouched x)
     where
       untouched : (x : Outcome A) → out ≡ answer_after f out x
-      untouched (kept a) = put-short out (f a) (omega (arith, size a))
-      untouched (refused r) = refl
+      untouched (Ok a) = put-short out (f a) (omega (arith, size a))
+      untouched (Err r) = refl
 
-  pub answer-kept : {x : Outcome A} {a : A} {ws after : List ℕ} → 8 * n ≤ length out → x ≡ kept a → ws ≡ f a → after ≡ filled out ws → Answered 0 after x
+  pub answer-kept : {x : Outcome A} {a : A} {ws after : List ℕ} → 8 * n ≤ length out → x ≡ Ok a → ws ≡ f a → after ≡ filled out ws → Answered 0 after x
   answer-kept h e g k = (rw (e, le-leb (8 * n) (length out) h), rw e (k ∙ ap (filled out) g))
 
-  pub answer-refused : {x : Outcome A} {r : Refusal} {code : ℕ} → 8 * n ≤ length out → x ≡ refused r → code ≡ number r → Answered code out x
+  pub answer-refused : {x : Outcome A} {r : Refusal} {code : ℕ} → 8 * n ≤ length out → x ≡ Err r → code ≡ number r → Answered code out x
   answer-refused h e g = (rw (e, le-leb (8 * n) (length out) h) g, rw e)

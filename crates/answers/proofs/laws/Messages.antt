@@ -4,16 +4,17 @@ use mathlib.Core.Path.{◌≡◌, refl, sym, ap, ◌∙◌}
 use mathlib.Core.List.{List}
 use lib.ListN.{length}
 use borrow.Author.Tests.{le-leb, lt-leb}
+use Rattle.std.specs.Prelude.{Option}
+use Rattle.fields.specs.declared.part.Part.{Part}
+use Rattle.fields.specs.Outcome.{Outcome}
+use Rattle.fields.specs.Step.{at_end}
 use Rattle.groups.specs.declared.group.MessagePlace.{MessagePlace}
-use Rattle.groups.specs.declared.group.WireMessageIter.{WireMessageIter}
 use Rattle.groups.specs.declared.group.WireMessageIter.TheVariants as iter
-use Rattle.groups.specs.declared.group.MessageStep.{MessageStep}
-use Rattle.groups.specs.declared.group.MessageStep.TheVariants as step
-use Rattle.groups.specs.Group.{message_at}
+use Rattle.groups.specs.Group.{MessageStep, message_at}
 use Rattle.answers.specs.declared.group.MessagesIn.{MessagesIn}
 use Rattle.answers.specs.Words.{filled}
 use Rattle.answers.specs.Group.{iter_words, messages_in}
-use Rattle.answers.specs.Messages.{place_asked, asked_by, message_code, message_out, handed_back, step_state, slot_after, message_asked, message_state}
+use Rattle.answers.specs.Messages.{place_asked, asked_by, said_code, said_out, message_code, message_out, step_state, slot_after, message_asked, message_state}
 
 module _ (buffer state out : List ℕ) where
   -- from a place: the code, and what is in the slot and in `out` afterwards
@@ -21,12 +22,12 @@ module _ (buffer state out : List ℕ) where
   PlaceStepped m code state' out' =
       let a = place_asked buffer out m in (code ≡ message_code a) × ((state' ≡ step_state state a) × (out' ≡ message_out out a))
 
-  pub out-short : (m : MessagePlace) {state' : List ℕ} → length out < 24 → state' ≡ step_state state (step.Ended iter.Ended) → PlaceStepped m 14 state' out
+  pub out-short : (m : MessagePlace) {state' : List ℕ} → length out < 24 → state' ≡ step_state state (at_end iter.Ended) → PlaceStepped m 14 state' out
   out-short m h e = rw (lt-leb 24 (length out) h) (refl, (e, refl))
 
-  pub place-steps : (m : MessagePlace) {r answer : MessageStep} {next : WireMessageIter} {code : ℕ} {state' out' : List ℕ} → 24 ≤ length out → r ≡ message_at buffer m → next ≡ handed_back r → state' ≡ filled state (iter_words next) → r ≡ answer → code ≡ message_code answer → out' ≡ message_out out answer → PlaceStepped m code state' out'
-  place-steps m h e b n g c o =
-      rw (le-leb 24 (length out) h, ← e) (c ∙ sym (ap message_code g), (n ∙ ap (λ (x : WireMessageIter). filled state (iter_words x)) b, o ∙ sym (ap (message_out out) g)))
+  pub place-steps : (m : MessagePlace) {r : MessageStep} {said : Outcome (Option Part)} {code : ℕ} {state' out' : List ℕ} → 24 ≤ length out → r ≡ message_at buffer m → state' ≡ filled state (iter_words r.next) → r.said ≡ said → code ≡ said_code said → out' ≡ said_out out said → PlaceStepped m code state' out'
+  place-steps m h e n g c o =
+      rw (le-leb 24 (length out) h, ← e) (c ∙ sym (ap said_code g), (n, o ∙ sym (ap (said_out out) g)))
 
   -- the same by the slot
   abbrev pub Stepped : ℕ → List ℕ → List ℕ → Type 0

@@ -1,4 +1,5 @@
 -- Laws of the record in a slice: when there is one, and that what was written is read back.
+use Rattle.std.specs.Prelude.{Ok, Err}
 use Prim.Native.Nat.{ℕ, ◌+◌, ◌^◌, ◌≤◌, ◌<◌}
 use mathlib.Core.Path.{◌≡◌, refl, sym, ap, ◌∙◌}
 use mathlib.Core.List.{List}
@@ -13,26 +14,25 @@ use Rattle.numbers.specs.Signed.{twos, is_int32}
 use Rattle.numbers.proofs.laws.Little.{written-length}
 use Rattle.numbers.proofs.laws.Signed.{InRange, residue-below}
 use Rattle.wire.specs.declared.record.WireBlock.{WireBlock}
-use Rattle.fields.specs.Outcome.{kept, refused}
 use Rattle.answers.specs.Words.{words}
 use Rattle.answers.specs.Record.{record_words, record_at, record_in}
 use Rattle.answers.proofs.laws.Words.{words-length, word_back}
 use Rattle.answers.proofs.laws.Signed.{signed_back, wide}
 
-pub record-short : (s : List ℕ) → length s < 72 → refused Outside ≡ record_in s
+pub record-short : (s : List ℕ) → length s < 72 → Err Outside ≡ record_in s
 unfolding record_in
 record-short s h = rw (lt-leb 72 (length s) h)
 
 module _ (s : List ℕ) (h : 72 ≤ length s) {g d : ℕ} (eg : g ≡ number_at 8 s 40) (ed : d ≡ number_at 8 s 48) where
-  pub no-granularity : is_int32 g ≡ false → refused Outside ≡ record_in s
+  pub no-granularity : is_int32 g ≡ false → Err Outside ≡ record_in s
   unfolding record_in
   no-granularity k = rw (le-leb 72 (length s) h, ← eg, k)
 
-  pub no-dategranularity : is_int32 g ≡ true → is_int32 d ≡ false → refused Outside ≡ record_in s
+  pub no-dategranularity : is_int32 g ≡ true → is_int32 d ≡ false → Err Outside ≡ record_in s
   unfolding record_in
   no-dategranularity j k = rw (le-leb 72 (length s) h, ← eg, j, ← ed, k)
 
-  pub record-kept : is_int32 g ≡ true → is_int32 d ≡ true → kept (record_at s) ≡ record_in s
+  pub record-kept : is_int32 g ≡ true → is_int32 d ≡ true → Ok (record_at s) ≡ record_in s
   unfolding record_in
   record-kept j k = rw (le-leb 72 (length s) h, ← eg, j, ← ed, k)
 
@@ -49,7 +49,7 @@ pub record Held (r : WireBlock) : Type 0 where
   pub lonoffset : InRange 64 r.lonoffset
 
 -- what was written is read back
-pub record-back : (s : List ℕ) (r : WireBlock) → 72 ≤ length s → Held r → record_in (written s 0 (words (record_words r))) ≡ kept r
+pub record-back : (s : List ℕ) (r : WireBlock) → 72 ≤ length s → Held r → record_in (written s 0 (words (record_words r))) ≡ Ok r
 record-back s r h held =
     let ws = record_words r in
     let t = written s 0 (words ws) in
@@ -63,7 +63,7 @@ record-back s r h held =
     (record-kept t long refl refl
     (ap is_int32 granularity ∙ (wide held.granularity).known)
     (ap is_int32 dategranularity ∙ (wide held.dategranularity).known))
-    ∙ ap kept
+    ∙ ap Ok
     (λ i.
     record {
       block = word_back s ws 0 h (lit< tt) held.block i;

@@ -3,6 +3,7 @@
 -- contents list the same; and because nothing is lost in that, so equal listings come of equal contents: sums determine their differences, and
 -- members and dense nodes determine the columns that they are made of, where these have equal counts (`laws/Said`); a listing falls apart into
 -- groups and kinds in one way (`laws/Split`, `laws/Equal`). Equal counts are what acceptance gives, and that is shown here.
+use Rattle.std.specs.Prelude.{Ok}
 use Prim.Native.Nat.{ℕ, zero, suc, ◌+◌}
 use mathlib.Core.Path.{◌≡◌, refl, sym, ap, ◌∙◌, subst}
 use mathlib.Core.Logic.{◌↔◌}
@@ -18,7 +19,7 @@ use Rattle.protobuf.specs.Tag.{tag_at}
 use Rattle.protobuf.specs.Stream.{end, more, unrolled, mapped}
 use Rattle.protobuf.specs.Column.{ended, cut, Column, value_at, column_from, int32s, sint64s}
 use Rattle.fields.specs.declared.part.Part.{Part}
-use Rattle.fields.specs.Outcome.{Outcome, kept, onward, each}
+use Rattle.fields.specs.Outcome.{Outcome, onward, each}
 use Rattle.fields.specs.Part.{no_part, bytes_in}
 use Rattle.fields.specs.Parts.{messages_of}
 use Rattle.fields.specs.View.{Slots, empty, view_from, view}
@@ -48,7 +49,7 @@ all-passed check (x ∷ xs) p =
 
 -- ---- counts
 
-plain-values : (c : Column ℕ) {n : ℕ} → count_of c ≡ kept n → length (values_of c) ≡ n
+plain-values : (c : Column ℕ) {n : ℕ} → count_of c ≡ Ok n → length (values_of c) ≡ n
 unfolding count_of values_of
 plain-values (end ended) {n} p = ap (kept_or n) p
 plain-values (end (cut r)) p = absurd (let z : ◌≡◌ {A = ℕ} 0 1 = cc in omega arith)
@@ -61,31 +62,31 @@ unfolding values_of mapped
 mapped-length f (end e) = refl
 mapped-length f (more v rest) = omega (arith, mapped-length f rest)
 
-count-values : {A : Type 0} (f : ℕ → A) (c : Column ℕ) {n : ℕ} → count_of c ≡ kept n → length (values_of (mapped f c)) ≡ n
+count-values : {A : Type 0} (f : ℕ → A) (c : Column ℕ) {n : ℕ} → count_of c ≡ Ok n → length (values_of (mapped f c)) ≡ n
 count-values f c p = mapped-length f c ∙ plain-values c p
 
 -- counts that agree are equal
-pub agree_both : (a b : Outcome ℕ) {n : ℕ} → agreed a b ≡ kept n → (a ≡ kept n) × (b ≡ kept n)
+pub agree_both : (a b : Outcome ℕ) {n : ℕ} → agreed a b ≡ Ok n → (a ≡ Ok n) × (b ≡ Ok n)
 unfolding agreed
 agree_both a b p =
     let wa = went a _ p in
     let wb = went b _ wa.on in
-    let test = chosen (eqb wa.value wb.value) (kept wa.value) Counts wb.on in
+    let test = chosen (eqb wa.value wb.value) (Ok wa.value) Counts wb.on in
     let first = wa.is ∙ test.1 in
-    (first, wb.is ∙ ap kept (sym (eqb-true wa.value wb.value test.0)) ∙ test.1)
+    (first, wb.is ∙ ap Ok (sym (eqb-true wa.value wb.value test.0)) ∙ test.1)
 
 record Counted (a b c : Column ℕ) (n : ℕ) : Type 0 where
-  first : count_of a ≡ kept n
-  second : count_of b ≡ kept n
-  third : count_of c ≡ kept n
+  first : count_of a ≡ Ok n
+  second : count_of b ≡ Ok n
+  third : count_of c ≡ Ok n
 
-three : (a b c : Column ℕ) {n : ℕ} → same_three a b c ≡ kept n → Counted a b c n
+three : (a b c : Column ℕ) {n : ℕ} → same_three a b c ≡ Ok n → Counted a b c n
 three a b c p =
     let first = agree_both (count_of a) (agreed (count_of b) (count_of c)) p in
     let others = agree_both (count_of b) (count_of c) first.1 in
     record { first = first.0; second = others.0; third = others.1 }
 
-pairs-length : (n : ℕ) (c : Column ℕ) {found : List (List Pair)} → dense_pairs n c ≡ kept found → length found ≡ n
+pairs-length : (n : ℕ) (c : Column ℕ) {found : List (List Pair)} → dense_pairs n c ≡ Ok found → length found ≡ n
 unfolding dense_pairs
 pairs-length zero c {found} p = ap length (sym (ap (kept_or found) p))
 pairs-length (suc n) c p =

@@ -15,13 +15,12 @@ use Rattle.protobuf.specs.Answers.{step_by}
 use Rattle.protobuf.specs.Stream.{end}
 use Rattle.protobuf.specs.Column.{ended, cut, Column, column_from}
 use Rattle.protobuf.proofs.laws.Column.{step_end}
-use Rattle.columns.specs.declared.told.Told.TheVariants as told
 use Rattle.columns.specs.declared.sums.Sum64.{Sum64}
 use Rattle.columns.specs.InStep.{ahead}
 use Rattle.columns.specs.Inside.{also, column_inside}
 use Rattle.columns.specs.Zip.{sum64_ahead}
 use Rattle.columns.proofs.laws.InStep.{stepped}
-use Rattle.columns.proofs.laws.Zip.{Tells, typed, summed}
+use Rattle.columns.proofs.laws.Zip.{mapped_end, summed_end}
 
 module _ (s : List ℕ) (c : state.Column) where
   -- the test, by where the column's end is
@@ -35,10 +34,6 @@ module _ (s : List ℕ) (c : state.Column) where
   at-end e k = stepped s c refl (ap (step_by c.end) (step_end s c.at c.end (omega (arith, e)) k e))
 
   module _ (e : ahead s c ≡ end ended) where
-    -- what is told of it is the end, whatever value would stand beside that
-    pub end-told : Tells told.Ended 0 (ahead s c) (ahead s c)
-    end-told = record { so = sym e }
-
     -- outside the bytes it would be refused
     pub ended-inside : column_inside s c ≡ true
     unfolding ahead
@@ -50,4 +45,4 @@ module _ (s : List ℕ) (c : state.Column) where
         by false b g = absurd (let z : ◌≡◌ {A = ℕ} 0 1 = cc in omega arith)
 
 pub sums-ended : (s : List ℕ) (c : Sum64) → ahead s c.column ≡ end ended → sum64_ahead s c ≡ end ended
-sums-ended s c e = sym (summed 64 c.sum (typed (zigzag 64) (end-told s c.column e) refl) refl).so
+sums-ended s c e = summed_end 64 c.sum (mapped_end (zigzag 64) e)

@@ -18,7 +18,7 @@ use Rattle.protobuf.specs.Column.{step_at}
 use Rattle.protobuf.specs.Short.{Short}
 use Rattle.columns.specs.declared.sums.Sum64.{Sum64}
 use Rattle.columns.specs.InStep.{nowhere}
-use Rattle.columns.proofs.laws.Zip.{typed, summed}
+use Rattle.columns.proofs.laws.Zip.{mapped-more, summed-more}
 use Rattle.elements.specs.declared.references.WayRefIter.{WayRefIter}
 use Rattle.elements.specs.declared.references.WayRefIter.TheVariants as iter
 use Rattle.elements.specs.References.{refs_from}
@@ -81,7 +81,7 @@ module _ (s slot out : List ℕ) (long : 32 ≤ length slot) (room : 8 ≤ lengt
       let at : c.at + word % 16 < 2 ^ 64 = omega (arith, word_within s c some h) in
       let before = twos 64 (number_at 8 slot 24) in
       let next : Sum64 = record { column = behind_word c word; sum = sum } in
-      let told = (summed 64 before (typed (zigzag 64) (word_tells s c some h) refl) added).so in
+      let told = sym (summed-more 64 before (mapped-more (zigzag 64) (word_tells s c some h) refl) added) in
       let here : WayRefIter = iter.Refs (record { column = c; sum = before }) in
       let item = puts-item ref_item (refs_from s) {w = here} sum told (after ∙ sym (from_start out (ref_item sum))) in
       with-room (refs_call s slot) (sym (ap (λ (b : Bool). choose b 1 0) (le-leb 8 (length out) room)))

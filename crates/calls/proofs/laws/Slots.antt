@@ -1,4 +1,5 @@
 -- Laws of numbers in a slot: what was put is read back, signed numbers too. Then what is handed out over the record in a slice.
+use Rattle.std.specs.Prelude.{Ok, Err}
 use Prim.Native.Nat.{ℕ, zero, suc, ◌-◌, ◌*◌, ◌^◌, ◌≤◌, ◌<◌}
 use native.Mathlib.Omega.{arith}
 use mathlib.Core.Path.{◌≡◌, refl, sym, ap, ◌∙◌, subst}
@@ -12,7 +13,7 @@ use Rattle.numbers.specs.Signed.{signed, twos}
 use Rattle.numbers.proofs.laws.Signed.{InRange, sub-below}
 use Rattle.protobuf.specs.declared.refusal.Refusal.{Refusal}
 use Rattle.protobuf.specs.Column.{Column}
-use Rattle.fields.specs.Outcome.{Outcome, kept, refused}
+use Rattle.fields.specs.Outcome.{Outcome}
 use Rattle.wire.specs.declared.record.WireBlock.{WireBlock}
 use Rattle.answers.specs.Words.{filled, signed_word}
 use Rattle.answers.proofs.laws.Words.{word_back}
@@ -52,13 +53,13 @@ module _ {W A B : Type 0} (g : B → A) (f : B → List ℕ) (from : WireBlock �
   abbrev FilledOver : Outcome WireBlock → ℕ → ℕ → W → List ℕ → Type 0
   FilledOver x = FilledBy g f (λ v. with_record x (λ r. from r v)) size over out (answered most (with_record x (λ r. from r w)))
 
-  pub over-record : {read : Outcome WireBlock} {b : WireBlock} {code count : ℕ} {next : W} {after : List ℕ} → read ≡ kept b → FilledBy g f (from b) size over out (answered most (from b w)) code count next after → FilledOver read code count next after
+  pub over-record : {read : Outcome WireBlock} {b : WireBlock} {code count : ℕ} {next : W} {after : List ℕ} → read ≡ Ok b → FilledBy g f (from b) size over out (answered most (from b w)) code count next after → FilledOver read code count next after
   over-record {code = code} {count} {next} {after} e q = subst (λ (x : Outcome WireBlock). FilledOver x code count next after) (sym e) q
 
-  pub over_none : {read : Outcome WireBlock} {n : Refusal} → read ≡ refused n → FilledOver read 14 0 over out
+  pub over_none : {read : Outcome WireBlock} {n : Refusal} → read ≡ Err n → FilledOver read 14 0 over out
   unfolding answered
   over_none {n = n} e = subst (λ (x : Outcome WireBlock). FilledOver x 14 0 over out) (sym e) (by most)
     where
-      by : (m : ℕ) → FilledBy g f (λ v. with_record (refused n) (λ r. from r v)) size over out (answered m (with_record (refused n) (λ r. from r w))) 14 0 over out
+      by : (m : ℕ) → FilledBy g f (λ v. with_record (Err n) (λ r. from r v)) size over out (answered m (with_record (Err n) (λ r. from r w))) 14 0 over out
       by zero = record { by = (refl, (refl, (refl, refl))) }
       by (suc m) = record { by = (refl, (refl, (refl, refl))) }

@@ -1,5 +1,6 @@
 -- The laws of one column that is read value by value: what a step says is the first item of the stream before the reader, and the next
 -- state has the rest before it; a reader at the start of a part has the part's own values before it.
+use Rattle.std.specs.Prelude.{Option}
 use Prim.Native.Nat.{ℕ, zero, suc, ◌+◌, ◌-◌, ◌^◌, ◌≤◌, ◌<◌}
 use mathlib.Core.Path.{◌≡◌, refl, sym, ap, ◌∙◌}
 use mathlib.Core.List.{List}
@@ -12,8 +13,6 @@ use lib.Dec.{leb}
 use borrow.Author.Tests.{leb-true, le-leb, lt-ltb, le-ltb}
 use Rattle.protobuf.specs.declared.refusal.Refusal.TheVariants.{Outside}
 use Rattle.protobuf.specs.declared.column.Column as state
-use Rattle.protobuf.specs.declared.column.Step.{Step}
-use Rattle.protobuf.specs.declared.column.Step.TheVariants as step
 use Rattle.numbers.specs.Choose.{choose}
 use Rattle.protobuf.specs.Answers.{step_by, over}
 use Rattle.protobuf.specs.Stream.{Stream, end, more, Item, last, item, follow}
@@ -22,17 +21,14 @@ use Rattle.protobuf.proofs.laws.Read.{says}
 use Rattle.protobuf.proofs.laws.Column.{values-forward, column-from}
 use Rattle.numbers.proofs.laws.Choose.{drop-take}
 use Rattle.protobuf.proofs.laws.Part.{column_shift}
+use Rattle.fields.specs.Outcome.{Outcome}
 use Rattle.fields.specs.declared.part.Part.{Part}
-use Rattle.columns.specs.declared.told.Told.TheVariants as told
-use Rattle.columns.specs.declared.reader.ColumnStep.{ColumnStep}
-use Rattle.columns.specs.InStep.{said_by, ahead, nowhere, start_of, read_by}
+use Rattle.columns.specs.InStep.{said_by, ahead, nowhere, start_of}
 use Rattle.fields.specs.Part.{bytes_of}
 
 -- what a step says, followed by what its next state has before it
-abbrev pub step_said : List ℕ → Step → Column ℕ
-step_said s (step.Value value rest) = more value (ahead s rest)
-step_said s step.Ended = end ended
-step_said s (step.Refused r rest) = end (cut r)
+abbrev pub step_said : List ℕ → Outcome (Option (ℕ × state.Column)) → Column ℕ
+step_said s = said_by (λ a. a.0) (λ a. ahead s a.1)
 
 -- ---- at the start of a part
 
@@ -92,41 +88,15 @@ module _ (s : List ℕ) where
   said-by p e true true f g = said-inside p e (f refl) (g refl)
 
   -- the step of a reader in state c
-  step_says : (c : state.Column) {r : Step} → r ≡ step_by c.end (step_at s c.at c.end) → step_said s r ≡ ahead s c
+  pub step_says : (c : state.Column) {r : Outcome (Option (ℕ × state.Column))} → r ≡ step_by c.end (step_at s c.at c.end) → step_said s r ≡ ahead s c
   unfolding ahead step_at
   step_says c e =
       ap (step_said s) e
       ∙ said-by c.at c.end (leb c.at c.end) (leb c.end (length s)) (leb-true _ _) (leb-true _ _)
 
   -- what a reader in state c has before it, once it is known which step it made
-  pub stepped : (c : state.Column) {r known : Step} → r ≡ step_by c.end (step_at s c.at c.end) → r ≡ known → ahead s c ≡ step_said s known
+  pub stepped : (c : state.Column) {r known : Outcome (Option (ℕ × state.Column))} → r ≡ step_by c.end (step_at s c.at c.end) → r ≡ known → ahead s c ≡ step_said s known
   stepped c e g = says (step_said s) (step_says c e) g
-
-  abbrev column_said : ColumnStep → Column ℕ
-  column_said r = said_by r.told r.value (ahead s r.next)
-
-  read_same : (e : ℕ) (i : Item ℕ ColumnEnd) → column_said (read_by e i) ≡ step_said s (step_by e i)
-  read_same e (item v q) = refl
-  read_same e (last ended) = refl
-  read_same e (last (cut r)) = refl
-
-  -- the same, told beside its value
-  pub read-says : (c : state.Column) {r : ColumnStep} → r ≡ read_by c.end (step_at s c.at c.end) → column_said r ≡ ahead s c
-  read-says c e = ap column_said e ∙ read_same c.end (step_at s c.at c.end) ∙ step_says c refl
-
--- a step of the leaf's reader, told beside its value
-abbrev pub read_of : Step → ColumnStep
-read_of (step.Value value next) = record { told = told.Value; value = value; next = next }
-read_of step.Ended = record { told = told.Ended; value = 0; next = over }
-read_of (step.Refused r next) = record { told = told.Refused r; value = 0; next = next }
-
-read-by : (e : ℕ) (i : Item ℕ ColumnEnd) → read_of (step_by e i) ≡ read_by e i
-read-by e (item v q) = refl
-read-by e (last ended) = refl
-read-by e (last (cut r)) = refl
-
-pub told-beside : (s : List ℕ) (c : state.Column) {r known : Step} → r ≡ step_by c.end (step_at s c.at c.end) → r ≡ known → read_of known ≡ read_by c.end (step_at s c.at c.end)
-told-beside s c g k = ap read_of (sym k ∙ g) ∙ read-by c.end (step_at s c.at c.end)
 
 -- ---- how many items a stream has
 

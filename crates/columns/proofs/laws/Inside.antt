@@ -1,7 +1,8 @@
--- The state behind a step is inside the bytes again: it stands behind a value, within the column's end, or is the one that has ended in every
--- buffer. Of several columns in step it is so where each of them is.
+-- The state behind a step is inside the bytes again: it stands behind a value, within the column's end. Of several columns in step it is so
+-- where each of them is.
+use Rattle.std.specs.Prelude.{Ok, Err, Option, Some, None}
 use Prim.Native.Nat.{ℕ, ◌≤◌}
-use mathlib.Core.Path.{◌≡◌, refl, ap, ◌∙◌}
+use mathlib.Core.Path.{◌≡◌, refl, sym, ap, ◌∙◌}
 use mathlib.Core.List.{List}
 use mathlib.Core.Bool.{Bool, true, false}
 use native.Mathlib.Omega.{arith}
@@ -12,16 +13,14 @@ use borrow.Author.Tests.{leb-true, le-leb}
 use Rattle.protobuf.specs.declared.refusal.Refusal.TheVariants.{Outside}
 use Rattle.protobuf.specs.declared.column.Column as state
 use Rattle.numbers.specs.Choose.{choose}
-use Rattle.protobuf.specs.declared.column.Step.{Step}
-use Rattle.protobuf.specs.Answers.{over, step_by}
+use Rattle.protobuf.specs.Answers.{step_by}
 use Rattle.protobuf.specs.Stream.{Item, last, item}
 use Rattle.protobuf.specs.Column.{ColumnEnd, ended, cut, value_at, step_at}
 use Rattle.protobuf.proofs.laws.Column.{values-forward}
-use Rattle.columns.specs.declared.reader.ColumnStep.{ColumnStep}
-use Rattle.columns.specs.InStep.{read_by}
+use Rattle.fields.specs.Outcome.{Outcome}
 use Rattle.columns.specs.declared.info_rows.InfoColumns.{InfoColumns}
-use Rattle.columns.specs.Inside.{also, column_inside, infos_inside}
-use Rattle.columns.proofs.laws.InStep.{read_of, told-beside}
+use Rattle.columns.specs.InStep.{in_step}
+use Rattle.columns.specs.Inside.{also, column_inside, infos_inside, step_inside}
 
 -- ---- two tests
 
@@ -67,31 +66,47 @@ module _ {a b c d e f x : Bool} (h : Six a b c d e f) (k : x ≡ true) where
 
 -- ---- the state behind a step
 
+-- once it is known that there is one
+pub inside_at : {A : Type 0} (inside : A → Bool) {r : Outcome (Option A)} {a : A} → step_inside inside r ≡ true → r ≡ Ok (Some a) → inside a ≡ true
+inside_at inside h g = sym (ap (step_inside inside) g) ∙ h
+
+-- two readers in step
+module _ {A B : Type 0} (f : A → Bool) (g : B → Bool) where
+  abbrev pub both_inside : A × B → Bool
+  both_inside x = also (f x.0) (g x.1)
+
+  in-step : (a : Outcome (Option A)) (b : Outcome (Option B)) → step_inside f a ≡ true → step_inside g b ≡ true → step_inside both_inside (in_step a b) ≡ true
+  in-step (Err n) b h k = refl
+  in-step (Ok None) (Ok None) h k = refl
+  in-step (Ok None) (Ok (Some y)) h k = refl
+  in-step (Ok None) (Err n) h k = refl
+  in-step (Ok (Some x)) (Ok None) h k = refl
+  in-step (Ok (Some x)) (Ok (Some y)) h k = also-true h k
+  in-step (Ok (Some x)) (Err n) h k = refl
+
+  pub in_step_inside : (a : Outcome (Option A)) (b : Outcome (Option B)) {r : Outcome (Option (A × B))} → step_inside f a ≡ true → step_inside g b ≡ true → r ≡ in_step a b → step_inside both_inside r ≡ true
+  in_step_inside a b h k e = ap (step_inside both_inside) e ∙ in-step a b h k
+
 module _ (s : List ℕ) where
-  inside-at : (p e : ℕ) → p ≤ e → e ≤ length s → column_inside s (record { at = p; end = e }) ≡ true
-  inside-at p e h k = also-true (le-leb _ _ h) (le-leb _ _ k)
+  abbrev pub behind_inside : Outcome (Option (ℕ × state.Column)) → Bool
+  behind_inside = step_inside λ a. column_inside s a.1
 
-  over-inside : column_inside s over ≡ true
-  over-inside = inside-at 0 0 (omega arith) (omega arith)
-
-  item-inside : (p e : ℕ) → e ≤ length s → (i : Item ℕ ColumnEnd) → value_at (take e s) p ≡ i → column_inside s (read_by e i).next ≡ true
-  item-inside p e k (last ended) g = over-inside
-  item-inside p e k (last (cut r)) g = over-inside
+  item-inside : (p e : ℕ) → e ≤ length s → (i : Item ℕ ColumnEnd) → value_at (take e s) p ≡ i → behind_inside (step_by e i) ≡ true
+  item-inside p e k (last ended) g = refl
+  item-inside p e k (last (cut r)) g = refl
   item-inside p e k (item v q) g =
-      let on = (values-forward (take e s)).moves p q v g in inside-at q e (omega (arith, on, length-take-le e s k)) k
+      let on = (values-forward (take e s)).moves p q v g in
+      also-true (le-leb _ _ (omega (arith, on, length-take-le e s k))) (le-leb _ _ k)
 
-  step_inside : (p e : ℕ) (a b : Bool) → (b ≡ true → e ≤ length s)
-      → column_inside s (read_by e (choose a (choose b (value_at (take e s) p) (last (cut Outside))) (last (cut Outside)))).next ≡ true
-  step_inside p e false b g = over-inside
-  step_inside p e true false g = over-inside
-  step_inside p e true true g = item-inside p e (g refl) (value_at (take e s) p) refl
+  inside-by : (p e : ℕ) (a b : Bool) → (b ≡ true → e ≤ length s)
+      → behind_inside (step_by e (choose a (choose b (value_at (take e s) p) (last (cut Outside))) (last (cut Outside)))) ≡ true
+  inside-by p e false b g = refl
+  inside-by p e true false g = refl
+  inside-by p e true true g = item-inside p e (g refl) (value_at (take e s) p) refl
 
-  pub read-inside : (c : state.Column) {r : ColumnStep} → r ≡ read_by c.end (step_at s c.at c.end) → column_inside s r.next ≡ true
+  -- of a reader in state c, once it is known which step it made
+  pub behind-inside : (c : state.Column) {r known : Outcome (Option (ℕ × state.Column))} → r ≡ step_by c.end (step_at s c.at c.end) → r ≡ known → behind_inside known ≡ true
   unfolding step_at
-  read-inside c e =
-      ap (λ (r : ColumnStep). column_inside s r.next) e
-      ∙ step_inside c.at c.end (leb c.at c.end) (leb c.end (length s)) (leb-true _ _)
-
-  -- the same of the leaf's reader, once it is known which step it made
-  pub behind-inside : (c : state.Column) {r known : Step} → r ≡ step_by c.end (step_at s c.at c.end) → r ≡ known → column_inside s (read_of known).next ≡ true
-  behind-inside c e g = read-inside c (told-beside s c e g)
+  behind-inside c e g =
+      ap behind_inside (sym g ∙ e)
+      ∙ inside-by c.at c.end (leb c.at c.end) (leb c.end (length s)) (leb-true _ _)

@@ -13,18 +13,17 @@ use Rattle.numbers.specs.Signed.{zigzag}
 use Rattle.protobuf.specs.declared.refusal.Refusal.TheVariants.{Outside}
 use Rattle.protobuf.specs.declared.column.Column.{Column}
 use Rattle.protobuf.specs.Answers.{step_by}
-use Rattle.protobuf.specs.Stream.{last, item}
+use Rattle.protobuf.specs.Stream.{more, last, item}
 use Rattle.protobuf.specs.Column.{cut, value_at, step_at}
 use Rattle.protobuf.specs.Short.{Short}
 use Rattle.protobuf.proofs.laws.Column.{values-forward}
-use Rattle.columns.specs.declared.told.Told.TheVariants as told
 use Rattle.columns.specs.InStep.{ahead}
 use Rattle.columns.specs.Inside.{column_inside}
 use Rattle.columns.proofs.laws.InStep.{stepped}
 use Rattle.columns.proofs.laws.Inside.{also-true}
 use Rattle.columns.specs.declared.sums.Sum64.{Sum64}
 use Rattle.columns.specs.Zip.{sum64_ahead, moved_sum}
-use Rattle.columns.proofs.laws.Zip.{Tells, typed, summed}
+use Rattle.columns.proofs.laws.Zip.{mapped-more, summed-more}
 
 -- the reader behind a word's value
 abbrev pub behind_word : Column → ℕ → Column
@@ -39,8 +38,8 @@ found-by s p e true true {v} {q} g h =
     (on.0, (omega (arith, on, length-take-le e s (g refl)), g refl))
 
 module _ (s : List ℕ) (c : Column) {word : ℕ} (some : word ≡ 0 → ⊥) (h : Short (step_at s c.at c.end) c.at word) where
-  pub word_tells : Tells told.Value (word / 16) (ahead s (behind_word c word)) (ahead s c)
-  word_tells = record { so = sym (stepped s c refl (ap (step_by c.end) (h.says some))) }
+  pub word_tells : ahead s c ≡ more (word / 16) (ahead s (behind_word c word))
+  word_tells = stepped s c refl (ap (step_by c.end) (h.says some))
 
   pub word_within : (c.at < c.at + word % 16) × ((c.at + word % 16 ≤ c.end) × (c.end ≤ length s))
   unfolding step_at
@@ -54,5 +53,5 @@ module _ (s : List ℕ) (c : Column) {word : ℕ} (some : word ≡ 0 → ⊥) (h
 
 -- of a column that is summed: the sum behind it
 pub sum_word : (s : List ℕ) (c : Sum64) {word : ℕ} → (word ≡ 0 → ⊥) → Short (step_at s c.column.at c.column.end) c.column.at word
-    → Tells told.Value (moved_sum c word).sum (sum64_ahead s (moved_sum c word)) (sum64_ahead s c)
-sum_word s c some h = summed 64 c.sum (typed (zigzag 64) (word_tells s c.column some h) refl) refl
+    → sum64_ahead s c ≡ more (moved_sum c word).sum (sum64_ahead s (moved_sum c word))
+sum_word s c some h = summed-more 64 c.sum (mapped-more (zigzag 64) (word_tells s c.column some h) refl) refl

@@ -1,5 +1,6 @@
 -- The laws of several columns in step: what a step tells of a column, its field's type makes of the value, a running sum of the sum, and two
 -- columns in step of both.
+use Rattle.std.specs.Prelude.{Ok, Err, Option, Some, None}
 use Prim.Native.Nat.{ℕ, ◌^◌, ◌<◌}
 use mathlib.Core.Path.{◌≡◌, refl, sym, ap, ◌∙◌}
 use mathlib.Core.List.{List}
@@ -15,68 +16,57 @@ use Rattle.numbers.specs.Signed.{wrapping_add}
 use Rattle.protobuf.specs.Column.{ColumnEnd, ended, cut, Column, sums_from, step_at}
 use Rattle.numbers.proofs.laws.Machine.{returned}
 use Rattle.block.specs.Infos.{Infos, NextInfo, present, stopped, read_next}
-use Rattle.columns.specs.declared.told.Told.{Told}
-use Rattle.columns.specs.declared.told.Told.TheVariants as told
-use Rattle.columns.specs.declared.reader.ColumnStep.{ColumnStep}
-use Rattle.columns.specs.InStep.{said_by, in_step, ahead, read_by}
-use Rattle.columns.specs.declared.sums.Sum64.{Sum64}
-use Rattle.columns.specs.declared.sums.Sum64Step.{Sum64Step}
-use Rattle.columns.specs.Zip.{both, zip, sum64_ahead, sum64_said}
-use Rattle.columns.proofs.laws.InStep.{read-says}
+use Rattle.protobuf.specs.Answers.{step_by}
+use Rattle.fields.specs.Outcome.{Outcome}
+use Rattle.columns.specs.InStep.{said_by, in_step, ahead}
+use Rattle.columns.specs.Zip.{Both, both, zip}
+use Rattle.columns.proofs.laws.InStep.{step_says}
 
--- ---- what is told of a stream
+-- ---- what a step tells of a stream
 
--- what is told of c is t, with x and then rest where that is a value
-pub record Tells {A : Type 0} (t : Told) (x : A) (rest c : Column A) : Type 0 where
-  pub so : said_by t x rest ≡ c
+-- what r says, by its value and what is behind it, is c
+pub record Tells {A B : Type 0} (value : A → B) (rest : A → Column B) (r : Outcome (Option A)) (c : Column B) : Type 0 where
+  pub so : said_by value rest r ≡ c
 
-pub told_is : {A : Type 0} {t known : Told} {x : A} {rest c : Column A} → Tells t x rest c → t ≡ known → c ≡ said_by known x rest
-told_is {x = x} {rest = rest} h e = sym h.so ∙ ap (λ t. said_by t x rest) e
+pub told_is : {A B : Type 0} {value : A → B} {rest : A → Column B} {r known : Outcome (Option A)} {c : Column B} → Tells value rest r c → r ≡ known → c ≡ said_by value rest known
+told_is {value = value} {rest = rest} h e = sym h.so ∙ ap (said_by value rest) e
 
 -- a reader of one column
-pub reads : (s : List ℕ) (c : state.Column) {r : ColumnStep} → r ≡ read_by c.end (step_at s c.at c.end) → Tells r.told r.value (ahead s r.next) (ahead s c)
-reads s c e = record { so = read-says s c e }
+pub reads : (s : List ℕ) (c : state.Column) {r : Outcome (Option (ℕ × state.Column))} → r ≡ step_by c.end (step_at s c.at c.end) → Tells (λ a. a.0) (λ a. ahead s a.1) r (ahead s c)
+reads s c e = record { so = step_says s c e }
 
 -- what its field's type makes of it
-mapped-said : {A B : Type 0} (f : A → B) (t : Told) (x : A) (rest : Column A) → said_by t (f x) (mapped f rest) ≡ mapped f (said_by t x rest)
+mapped-said : {A B C : Type 0} (f : B → C) (value : A → B) (rest : A → Column B) (r : Outcome (Option A)) → said_by (λ a. f (value a)) (λ a. mapped f (rest a)) r ≡ mapped f (said_by value rest r)
 unfolding mapped
-mapped-said f told.Value x rest = refl
-mapped-said f told.Ended x rest = refl
-mapped-said f (told.Refused r) x rest = refl
+mapped-said f value rest (Ok (Some a)) = refl
+mapped-said f value rest (Ok None) = refl
+mapped-said f value rest (Err r) = refl
 
-pub typed : {A B : Type 0} (f : A → B) {t : Told} {v : A} {rest c : Column A} {x : B} → Tells t v rest c → x ≡ f v → Tells t x (mapped f rest) (mapped f c)
-typed f {t} {v} {rest} h e =
-    record { so = ap (λ y. said_by t y (mapped f rest)) e ∙ mapped-said f t v rest ∙ ap (mapped f) h.so }
-
--- a running sum
-sums-said : (w : ℕ) (sum : ℤ) (t : Told) (d : ℤ) (rest : Column ℤ) → said_by t (wrapping_add w sum d) (sums_from w (wrapping_add w sum d) rest) ≡ sums_from w sum (said_by t d rest)
-unfolding sums_from
-sums-said w sum told.Value d rest = refl
-sums-said w sum told.Ended d rest = refl
-sums-said w sum (told.Refused r) d rest = refl
-
-pub summed : (w : ℕ) (sum : ℤ) {t : Told} {d behind : ℤ} {rest c : Column ℤ} → Tells t d rest c → behind ≡ wrapping_add w sum d → Tells t behind (sums_from w behind rest) (sums_from w sum c)
-summed w sum {t} {d} {rest = rest} h e =
-    record { so = ap (λ z. said_by t z (sums_from w z rest)) e ∙ sums-said w sum t d rest ∙ ap (sums_from w sum) h.so }
-
--- what a step of a summed column says
-pub sum_told : (s : List ℕ) (state : Sum64) (r : Sum64Step) → sum64_said s r ≡ sum64_ahead s state → Tells r.told r.next.sum (sum64_ahead s r.next) (sum64_ahead s state)
-sum_told s state r e = record { so = e }
+pub typed : {A B C : Type 0} (f : B → C) {value : A → B} {rest : A → Column B} {r : Outcome (Option A)} {c : Column B} → Tells value rest r c → Tells (λ a. f (value a)) (λ a. mapped f (rest a)) r (mapped f c)
+typed f {value = value} {rest = rest} {r = r} h = record { so = mapped-said f value rest r ∙ ap (mapped f) h.so }
 
 -- two columns in step
-zip-said : {A B : Type 0} (a b : Told) (x : A) (y : B) (xs : Column A) (ys : Column B) → said_by (in_step a b) (both x y) (zip xs ys) ≡ zip (said_by a x xs) (said_by b y ys)
-unfolding zip
-zip-said (told.Refused r) b x y xs ys = refl
-zip-said told.Ended told.Ended x y xs ys = refl
-zip-said told.Ended told.Value x y xs ys = refl
-zip-said told.Ended (told.Refused r) x y xs ys = refl
-zip-said told.Value told.Ended x y xs ys = refl
-zip-said told.Value told.Value x y xs ys = refl
-zip-said told.Value (told.Refused r) x y xs ys = refl
+module _ {A B C D : Type 0} (first : A → C) (second : B → D) (firsts : A → Column C) (seconds : B → Column D) where
+  abbrev pub pair_value : A × B → Both C D
+  pair_value a = both (first a.0) (second a.1)
 
-pub zipped : {A B : Type 0} {t u both_told : Told} {x : A} {y : B} {xs a : Column A} {ys b : Column B} → Tells t x xs a → Tells u y ys b → both_told ≡ in_step t u → Tells both_told (both x y) (zip xs ys) (zip a b)
-zipped {t = t} {u = u} {x = x} {y = y} {xs = xs} {ys = ys} h k e =
-    record { so = ap (λ v. said_by v (both x y) (zip xs ys)) e ∙ zip-said t u x y xs ys ∙ λ i. zip (h.so i) (k.so i) }
+  abbrev pub pair_rest : A × B → Column (Both C D)
+  pair_rest a = zip (firsts a.0) (seconds a.1)
+
+  zip-said : (a : Outcome (Option A)) (b : Outcome (Option B)) → said_by pair_value pair_rest (in_step a b) ≡ zip (said_by first firsts a) (said_by second seconds b)
+  unfolding zip
+  zip-said (Err r) b = refl
+  zip-said (Ok None) (Ok None) = refl
+  zip-said (Ok None) (Ok (Some y)) = refl
+  zip-said (Ok None) (Err r) = refl
+  zip-said (Ok (Some x)) (Ok None) = refl
+  zip-said (Ok (Some x)) (Ok (Some y)) = refl
+  zip-said (Ok (Some x)) (Err r) = refl
+
+pub zipped : {A B C D : Type 0} {first : A → C} {second : B → D} {firsts : A → Column C} {seconds : B → Column D} {a : Outcome (Option A)} {b : Outcome (Option B)} {both_told : Outcome (Option (A × B))} {xs : Column C} {ys : Column D}
+    → Tells first firsts a xs → Tells second seconds b ys → both_told ≡ in_step a b → Tells (pair_value first second firsts seconds) (pair_rest first second firsts seconds) both_told (zip xs ys)
+zipped {first = first} {second = second} {firsts = firsts} {seconds = seconds} {a = a} {b = b} h k e =
+    record { so = ap (said_by _ _) e ∙ zip-said first second firsts seconds a b ∙ λ i. zip (h.so i) (k.so i) }
 
 -- a sum whose terms and result the machine holds as their bits
 pub held-sum : (W : Width) (sum : ℤ) {d r z : ℤ} → mag sum < 2 ^ hbits W → mag d < 2 ^ hbits W → d ≡ z → mag r < 2 ^ hbits W
@@ -84,16 +74,33 @@ pub held-sum : (W : Width) (sum : ℤ) {d r z : ℤ} → mag sum < 2 ^ hbits W �
 held-sum W sum fs fd e fr g =
     returned W fr (g ∙ (λ i. wrapping_add (bits W) (returned W {r = sum} fs refl i) (returned W fd e i)))
 
--- ---- a column by its next value
+-- ---- a column by its next value: what its field's type makes of it, the running sum, and two columns in step
 
 module _ {A : Type 0} (f : ℕ → A) {c : Column ℕ} where
   pub mapped_end : {e : ColumnEnd} → c ≡ end e → mapped f c ≡ end e
   unfolding mapped
   mapped_end g = ap (mapped f) g
 
-  pub mapped-more : {v : ℕ} {rest : Column ℕ} → c ≡ more v rest → mapped f c ≡ more (f v) (mapped f rest)
+  pub mapped-more : {v : ℕ} {rest : Column ℕ} {x : A} → c ≡ more v rest → x ≡ f v → mapped f c ≡ more x (mapped f rest)
   unfolding mapped
-  mapped-more g = ap (mapped f) g
+  mapped-more {rest = rest} g h = ap (mapped f) g ∙ ap (λ x. more x (mapped f rest)) (sym h)
+
+module _ (w : ℕ) (sum : ℤ) {c : Column ℤ} where
+  pub summed_end : {e : ColumnEnd} → c ≡ end e → sums_from w sum c ≡ end e
+  unfolding sums_from
+  summed_end g = ap (sums_from w sum) g
+
+  pub summed-more : {d behind : ℤ} {rest : Column ℤ} → c ≡ more d rest → behind ≡ wrapping_add w sum d → sums_from w sum c ≡ more behind (sums_from w behind rest)
+  unfolding sums_from
+  summed-more {rest = rest} g h = ap (sums_from w sum) g ∙ ap (λ z. more z (sums_from w z rest)) (sym h)
+
+pub zipped-more : {A B : Type 0} {x : A} {y : B} {xs a : Column A} {ys b : Column B} → a ≡ more x xs → b ≡ more y ys → zip a b ≡ more (both x y) (zip xs ys)
+unfolding zip
+zipped-more g h = λ i. zip (g i) (h i)
+
+pub zipped_end : {A B : Type 0} {a : Column A} {b : Column B} → a ≡ end ended → b ≡ end ended → zip a b ≡ end ended
+unfolding zip
+zipped_end g h = λ i. zip (g i) (h i)
 
 -- ---- the next value of a column of infos
 

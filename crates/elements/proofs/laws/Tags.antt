@@ -1,4 +1,5 @@
 -- The laws of an element's tags: what a reader's step tells of the pairs that a state has ahead, as numbers and then with their texts.
+use Rattle.std.specs.Prelude.{Ok, Err, Option, Some, None}
 use Prim.Native.Nat.{ℕ, zero, suc}
 use mathlib.Core.Path.{◌≡◌, refl, sym, ap, ◌∙◌}
 use mathlib.Core.List.{List}
@@ -10,20 +11,16 @@ use Rattle.protobuf.specs.declared.column.Column as state
 use Rattle.numbers.specs.Choose.{choose}
 use Rattle.protobuf.specs.Stream.{end, more, mapped}
 use Rattle.protobuf.specs.Column.{ended, cut, Column, column_from}
+use Rattle.fields.specs.declared.part.Part.{Part}
+use Rattle.fields.specs.Outcome.{Outcome}
 use Rattle.protobuf.proofs.laws.Read.{says}
 use Rattle.wire.specs.declared.record.WireBlock.{WireBlock}
-use Rattle.lookup.specs.declared.by_number.Got.{Got}
 use Rattle.lookup.specs.Lookup.{get_at, is_record_inside}
-use Rattle.columns.specs.declared.told.Told.{Told}
 use Rattle.columns.specs.declared.zip.TagColumns.{TagColumns}
-use Rattle.columns.specs.declared.zip.TagStep.{TagStep}
-use Rattle.columns.specs.declared.keys_vals.DenseTag.{DenseTag}
-use Rattle.columns.specs.declared.keys_vals.DenseTag.TheVariants as tag
 use Rattle.columns.specs.InStep.{said_by, ahead}
-use Rattle.columns.specs.Inside.{also, tags_inside}
+use Rattle.columns.specs.Inside.{also, step_inside, tags_inside}
 use Rattle.columns.specs.KeysVals as dense
 use Rattle.columns.specs.Zip.{tags_ahead, tags_said}
-use Rattle.columns.proofs.laws.Zip.{typed, told_is}
 use Rattle.elements.specs.declared.tags.TagIter.{TagIter}
 use Rattle.elements.specs.declared.tags.TagIter.TheVariants as iter
 use Rattle.elements.specs.declared.tags.RawTag.{RawTag}
@@ -47,13 +44,23 @@ module _ (s : List ℕ) (c : TagColumns) where
   unfolding raw_tags_from
   pairs-inside h = ap (λ (b : Bool). choose b (mapped pair_of (tags_ahead s c)) (end (cut Outside))) h
 
--- what is told of columns that are inside, whose next ones are so too
-pub pair-told : (s : List ℕ) (c : TagColumns) (r : TagStep) {known : Told} → tags_inside s c ≡ true → tags_said s r ≡ tags_ahead s c → tags_inside s r.next ≡ true → r.told ≡ known
-    → said_by known (pair_by r.key r.value) (raw_tags_from s (iter.Columns r.next)) ≡ raw_tags_from s (iter.Columns c)
-pair-told s c r {known} h e k g =
-    sym (pairs-inside s c h
-    ∙ told_is (typed pair_of (record { so = e }) refl) g
-    ∙ ap (said_by known (pair_by r.key r.value)) (sym (pairs-inside s r.next k)))
+-- what is told by an answer of the columns' reader
+module _ (s : List ℕ) where
+  abbrev pub pairs_said : Outcome (Option ((ℕ × ℕ) × TagColumns)) → Column RawTag
+  pairs_said = said_by (λ x. pair_by x.0.0 x.0.1) (λ x. raw_tags_from s (iter.Columns x.1))
+
+  pairs-said : (known : Outcome (Option ((ℕ × ℕ) × TagColumns))) → step_inside (λ x. tags_inside s x.1) known ≡ true → pairs_said known ≡ mapped pair_of (tags_said s known)
+  unfolding mapped
+  pairs-said (Ok (Some x)) h = ap (more (pair_by x.0.0 x.0.1)) (pairs-inside s x.1 h)
+  pairs-said (Ok None) h = refl
+  pairs-said (Err r) h = refl
+
+  -- of columns that are inside, whose next ones are so too
+  pub pair-told : (c : TagColumns) {r known : Outcome (Option ((ℕ × ℕ) × TagColumns))} → tags_inside s c ≡ true → tags_said s r ≡ tags_ahead s c → step_inside (λ x. tags_inside s x.1) r ≡ true → r ≡ known
+      → pairs_said known ≡ raw_tags_from s (iter.Columns c)
+  pair-told c {known = known} h e k g =
+      pairs-said known (sym (says (step_inside λ x. tags_inside s x.1) k g))
+      ∙ sym (pairs-inside s c h ∙ ap (mapped pair_of) (says (tags_said s) e g))
 
 -- ---- a dense node's pairs
 
@@ -72,9 +79,9 @@ module _ (s : List ℕ) where
   dense-ahead c = one_test (leb c.at c.end) (leb c.end (length s)) (column_from (take c.end s) c.at)
 
   abbrev pairs_by : dense.NextTag → Column RawTag
-  pairs_by (dense.pair key value rest) = more (pair_by key value) (pairs_of rest)
-  pairs_by (dense.done rest) = end ended
-  pairs_by (dense.stopped r) = end (cut r)
+  pairs_by (Ok (Some (key, value), rest)) = more (pair_by key value) (pairs_of rest)
+  pairs_by (Ok (None, rest)) = end ended
+  pairs_by (Err r) = end (cut r)
 
   pairs-by : (c : Column ℕ) → pairs_of c ≡ pairs_by (dense.next_tag c)
   unfolding pairs_of
@@ -86,17 +93,17 @@ module _ (s : List ℕ) where
   pairs-by (more (suc k) (more v rest)) = refl
 
   -- what is told by an answer of the reader
-  abbrev pub dense_said : DenseTag → Column RawTag
-  dense_said (tag.Pair key value next) = more (pair_by key value) (raw_tags_from s (iter.KeysVals next))
-  dense_said (tag.Done next) = end ended
-  dense_said (tag.Refused r) = end (cut r)
+  abbrev pub dense_said : Outcome (Option (ℕ × ℕ) × state.Column) → Column RawTag
+  dense_said (Ok (Some (key, value), next)) = more (pair_by key value) (raw_tags_from s (iter.KeysVals next))
+  dense_said (Ok (None, next)) = end ended
+  dense_said (Err r) = end (cut r)
 
-  said-by : (known : DenseTag) → dense_said known ≡ pairs_by (dense.tag_said s known)
-  said-by (tag.Pair key value next) = ap (more (pair_by key value)) (dense-ahead next)
-  said-by (tag.Done next) = refl
-  said-by (tag.Refused r) = refl
+  said-by : (known : Outcome (Option (ℕ × ℕ) × state.Column)) → dense_said known ≡ pairs_by (dense.tag_said s known)
+  said-by (Ok (Some (key, value), next)) = ap (more (pair_by key value)) (dense-ahead next)
+  said-by (Ok (None, next)) = refl
+  said-by (Err r) = refl
 
-  pub dense-told : (c : state.Column) {r known : DenseTag} → dense.tag_said s r ≡ dense.next_tag (ahead s c) → r ≡ known → dense_said known ≡ raw_tags_from s (iter.KeysVals c)
+  pub dense-told : (c : state.Column) {r known : Outcome (Option (ℕ × ℕ) × state.Column)} → dense.tag_said s r ≡ dense.next_tag (ahead s c) → r ≡ known → dense_said known ≡ raw_tags_from s (iter.KeysVals c)
   dense-told c {known = known} e g =
       said-by known ∙ sym (dense-ahead c ∙ pairs-by (ahead s c) ∙ ap pairs_by (says (dense.tag_said s) e g))
 
@@ -135,6 +142,6 @@ module _ (s : List ℕ) (b : WireBlock) where
         texts-by known ∙ sym (texts-inside w ∙ ap (found_tags (get_at s b)) (says (raw_tag_said s) e g))
 
   -- a pair by what was found of its key and its value
-  pub looked_up : (p : RawTag) (others : Column Tag) {k v known-key known-value : Got} → k ≡ get_at s b p.key → k ≡ known-key → v ≡ get_at s b p.value → v ≡ known-value
+  pub looked_up : (p : RawTag) (others : Column Tag) {k v known-key known-value : Outcome (Option Part)} → k ≡ get_at s b p.key → k ≡ known-key → v ≡ get_at s b p.value → v ≡ known-value
       → tag_then p known-key known-value others ≡ tag_then p (get_at s b p.key) (get_at s b p.value) others
   looked_up p others e g f h = λ i. tag_then p ((sym g ∙ e) i) ((sym h ∙ f) i) others

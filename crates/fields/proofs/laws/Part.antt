@@ -9,7 +9,6 @@ use lib.Dec.{leb}
 use lib.ListN.{length, take, drop, length-drop}
 use lib.Seq.{length-take-le}
 use borrow.Author.Tests.{lt-leb, not-true, not-false}
-use Rattle.numbers.proofs.laws.Choose.{same_test}
 
 -- the bytes of a part, as `&s[start..start + len]` lends them
 abbrev pub lent : List ℕ → ℕ → ℕ → List ℕ
@@ -34,6 +33,3 @@ confirmed {a} e g = sym e ∙ not-false a g
 module _ (n place count : ℕ) where
   pub none_fit : n < place → false ≡ leb (place + count) n
   none_fit h = sym (lt-leb (place + count) n (omega arith))
-
-  pub bytes_fit : place ≤ n → leb count (n - place) ≡ leb (place + count) n
-  bytes_fit h = same_test count (n - place) (place + count) n (λ e. omega arith) (λ e. omega arith)

@@ -1,5 +1,6 @@
 -- Laws of views, over any schema and any record that a view makes of the slots: what storing one field does, by its tag's row; and the loop
 -- over a message's fields.
+use Rattle.std.specs.Prelude.{Ok, Err}
 use Prim.Native.Nat.{ℕ, ◌+◌, ◌-◌, ◌*◌, ◌/◌, ◌%◌, ◌≤◌, ◌<◌}
 use mathlib.Core.Path.{◌≡◌, refl, sym, ap, ◌∙◌, subst}
 use mathlib.Core.Logic.{◌⊎◌, inl, inr}
@@ -13,15 +14,19 @@ use Rattle.protobuf.specs.declared.refusal.Refusal.{Refusal}
 use Rattle.protobuf.specs.declared.refusal.Refusal.TheVariants.{Granularity, Outside}
 use Rattle.numbers.specs.Choose.{choose}
 use Rattle.numbers.specs.Signed.{is_int32}
-use Rattle.message.specs.Payload.{Payload, payload_of}
+use Rattle.message.specs.declared.payload.Payload.{Payload}
+use Rattle.message.specs.Payload.{payload_of}
 use Rattle.protobuf.specs.Stream.{Item, last, item, follow}
-use Rattle.protobuf.specs.Tag.{Tag, split}
+use Rattle.protobuf.specs.declared.tag.Tag.{Tag}
+use Rattle.protobuf.specs.Tag.{split}
 use Rattle.message.specs.Message.{Field, MessageEnd, complete, cut, spoilt, field_at, message_from}
-use Rattle.message.specs.Answers.{field_by}
+use Rattle.message.specs.declared.field.NoField.{NoField}
+use Rattle.message.specs.declared.field.NoField.TheVariants.{Cut, Spoilt}
+use Rattle.message.specs.Answers.{field_by, field_of, refusal_in}
 use Rattle.message.proofs.laws.Message.{message-from, fields-forward}
 use Rattle.fields.specs.Schema.{row}
 use Rattle.fields.specs.Slot.{rule_for}
-use Rattle.fields.specs.Outcome.{Outcome, kept, refused, onward, each}
+use Rattle.fields.specs.Outcome.{Outcome, onward, each}
 use Rattle.fields.proofs.laws.Outcome.{each-refused, each-kept}
 use Rattle.fields.specs.Part.{part_by}
 use Rattle.fields.specs.View.{Kind, scalar, int32, column, submessage, bytes, repeated, Row, Schema, takes, slot_by, Slots, empty, with, put, store, view, view_from, view_in}
@@ -118,7 +123,7 @@ unruled rows tag h = unruled-by Unit rows tag h
 
 -- what the row that was found does
 abbrev pub store_by : List Row → Slots → Payload → Outcome Slots
-store_by [] slots p = kept slots
+store_by [] slots p = Ok slots
 store_by (r ∷ rs) slots p = each (with slots r.field) (put r.kind (slots r.field) p)
 
 pub stored-by : (rows : Schema) (slots : Slots) (f : Field) → store rows slots f ≡ store_by (rule_for rows f.tag) slots f.payload
@@ -138,17 +143,17 @@ module _ {A : Type 0} (of : Slots → A) (schema : Schema) (slots : Slots) (k ta
   int32-row e i = stored-by schema slots (field_by tag value start len) ∙ ap (λ (x : List Row). store_by x slots (payload_of value start len)) (sym (ruled schema k int32 tag e i))
 
   abbrev tested : Bool → Outcome A
-  tested b = each of (each (with slots k) (choose b (kept (slot_by value (part_by start len))) (refused Granularity)))
+  tested b = each of (each (with slots k) (choose b (Ok (slot_by value (part_by start len))) (Err Granularity)))
 
-  pub int32-kept : kind_of schema k ≡ int32 ∷ [] → InRow int32 k tag → is_int32 value ≡ true → kept (of (with slots k (slot_by value (part_by start len)))) ≡ each of (store schema slots (field_by tag value start len))
+  pub int32-kept : kind_of schema k ≡ int32 ∷ [] → InRow int32 k tag → is_int32 value ≡ true → Ok (of (with slots k (slot_by value (part_by start len)))) ≡ each of (store schema slots (field_by tag value start len))
   unfolding put each
   int32-kept e i g = sym (ap (each of) (int32-row e i) ∙ ap tested g)
 
-  pub int32-refused : kind_of schema k ≡ int32 ∷ [] → InRow int32 k tag → is_int32 value ≡ false → refused Granularity ≡ each of (store schema slots (field_by tag value start len))
+  pub int32-refused : kind_of schema k ≡ int32 ∷ [] → InRow int32 k tag → is_int32 value ≡ false → Err Granularity ≡ each of (store schema slots (field_by tag value start len))
   unfolding put each
   int32-refused e i g = sym (ap (each of) (int32-row e i) ∙ ap tested g)
 
-pub passed_over : {A : Type 0} (of : Slots → A) (rows : Schema) (slots : Slots) (tag value start len : ℕ) → NoneOf Unit rows tag → each of (store rows slots (field_by tag value start len)) ≡ kept (of slots)
+pub passed_over : {A : Type 0} (of : Slots → A) (rows : Schema) (slots : Slots) (tag value start len : ℕ) → NoneOf Unit rows tag → each of (store rows slots (field_by tag value start len)) ≡ Ok (of slots)
 unfolding each
 passed_over of rows slots tag value start len h =
     ap (each of) (stored-by rows slots (field_by tag value start len) ∙ ap (λ (x : List Row). store_by x slots (payload_of value start len)) (sym (unruled rows tag h)))
@@ -176,27 +181,32 @@ module _ {A : Type 0} (of : Slots → A) (schema : Schema) (s : List ℕ) where
     from-item : {i : Item Field MessageEnd} → field_at s p ≡ i → view schema s ≡ view_from schema w.slots (follow i (message_from s))
     from-item e = w.so ∙ ap (view_from schema w.slots) (message-from s p ∙ ap (λ i. follow i (message_from s)) e)
 
-    pub completed : field_at s p ≡ last complete → each of (view schema s) ≡ kept v
+    pub completed : field_at s p ≡ last complete → each of (view schema s) ≡ Ok v
     unfolding view_from each
-    completed e = ap (each of) (from-item e) ∙ ap kept (sym w.is)
+    completed e = ap (each of) (from-item e) ∙ ap Ok (sym w.is)
 
-    pub cut_off : {n : Refusal} → field_at s p ≡ last (cut n) → each of (view schema s) ≡ refused n
+    pub cut_off : {n : Refusal} → field_at s p ≡ last (cut n) → each of (view schema s) ≡ Err n
     unfolding view_from each
     cut_off e = ap (each of) (from-item e)
 
-    pub spoilt_off : {t : Tag} {n : Refusal} → field_at s p ≡ last (spoilt t n) → each of (view schema s) ≡ refused n
+    pub spoilt_off : {t : Tag} {n : Refusal} → field_at s p ≡ last (spoilt t n) → each of (view schema s) ≡ Err n
     unfolding view_from each
     spoilt_off e = ap (each of) (from-item e)
 
+    -- whichever it is that no field can be read for
+    pub no_more : (e : NoField) → field_at s p ≡ field_of (Err e) → each of (view schema s) ≡ Err (refusal_in e)
+    no_more (Cut n) e = cut_off e
+    no_more (Spoilt t n) e = spoilt_off e
+
     module _ {f : Field} {q : ℕ} (e : field_at s p ≡ item f q) {out : Outcome A} (h : Stores of schema v f out) where
-      pub not-stored : {n : Refusal} → out ≡ refused n → each of (view schema s) ≡ refused n
+      pub not-stored : {n : Refusal} → out ≡ Err n → each of (view schema s) ≡ Err n
       unfolding view_from onward each
       not-stored g =
           ap (each of)
           (from-item e
           ∙ ap (λ x. onward x λ next. view_from schema next (message_from s q)) (each-refused of (store schema w.slots f) (sym (h w.slots w.is) ∙ g)))
 
-      pub stored : {v' : A} → out ≡ kept v' → Viewed of schema s v' q
+      pub stored : {v' : A} → out ≡ Ok v' → Viewed of schema s v' q
       unfolding view_from onward
       stored g =
           let k = each-kept of (store schema w.slots f) (sym (h w.slots w.is) ∙ g) in
@@ -216,7 +226,7 @@ module _ {A : Type 0} (of : Slots → A) (schema : Schema) (s : List ℕ) where
 
 -- ---- a view of a part
 
-pub view-outside : (schema : Schema) (s : List ℕ) (start len : ℕ) → leb (start + len) (length s) ≡ false → view_in schema s start len ≡ refused Outside
+pub view-outside : (schema : Schema) (s : List ℕ) (start len : ℕ) → leb (start + len) (length s) ≡ false → view_in schema s start len ≡ Err Outside
 unfolding view_in
 view-outside schema s start len h = simp h
 

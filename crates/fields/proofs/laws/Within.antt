@@ -1,5 +1,6 @@
 -- What holds of no part and of every part within a message holds of the parts of its view. So they lie within the message, and moving them
 -- by nothing leaves them as they are.
+use Rattle.std.specs.Prelude.{Ok}
 use Prim.Native.Nat.{ℕ, ◌+◌, ◌≤◌}
 use mathlib.Core.Path.{◌≡◌, refl, ap, subst}
 use mathlib.Core.List.{List, [], ◌∷◌}
@@ -10,7 +11,7 @@ use lib.Dec.{eqb}
 use lib.ListN.{length}
 use Rattle.numbers.specs.Choose.{choose}
 use Rattle.numbers.specs.Signed.{is_int32}
-use Rattle.message.specs.Payload.{Payload}
+use Rattle.message.specs.declared.payload.Payload.{Payload}
 use Rattle.protobuf.specs.Stream.{end, more}
 use Rattle.message.specs.Message.{Field, complete, cut, spoilt, Message, message}
 use Rattle.numbers.proofs.laws.Choose.{choose_elim}
@@ -18,7 +19,6 @@ use Rattle.protobuf.proofs.laws.Stream.{Every, this-and}
 use Rattle.message.proofs.laws.Message.{all-within}
 use Rattle.fields.specs.declared.part.Part.{Part}
 use Rattle.fields.specs.declared.slot.Slot.{Slot}
-use Rattle.fields.specs.Outcome.{kept}
 use Rattle.fields.specs.Part.{part_by, no_part, moved}
 use Rattle.fields.specs.View.{Kind, scalar, int32, column, submessage, bytes, repeated, Schema, takes, slot_by, Slots, empty, with, column_part, info_part, put, store, view, view_from}
 use Rattle.fields.proofs.laws.Outcome.{If, so, not, if_kept, if_each, if_onward}
@@ -64,12 +64,12 @@ module _ (P : Part → Type 0) (n : ℕ) (within : (start len : ℕ) → start +
   view-holds rows slots (more f rest) h (this-and x on) =
       if_onward (λ next. view_from rows next rest) (store-holds rows slots f h x) (λ next k. view-holds rows next rest k on)
 
-pub parts_hold : (P : Part → Type 0) (schema : Schema) (s : List ℕ) → P no_part → ((start len : ℕ) → start + len ≤ length s → P (part_by start len)) → {slots : Slots} → view schema s ≡ kept slots → (k : ℕ) → P (slots k).part
+pub parts_hold : (P : Part → Type 0) (schema : Schema) (s : List ℕ) → P no_part → ((start len : ℕ) → start + len ≤ length s → P (part_by start len)) → {slots : Slots} → view schema s ≡ Ok slots → (k : ℕ) → P (slots k).part
 unfolding view
 parts_hold P schema s none within e = if_kept (subst (If (Hold P (length s) within)) e (view-holds P (length s) within schema empty (message s) (λ k. none) (all-within s 0)))
 
-pub parts_within : (schema : Schema) (s : List ℕ) {slots : Slots} → view schema s ≡ kept slots → (k : ℕ) → (slots k).part.start + (slots k).part.len ≤ length s
+pub parts_within : (schema : Schema) (s : List ℕ) {slots : Slots} → view schema s ≡ Ok slots → (k : ℕ) → (slots k).part.start + (slots k).part.len ≤ length s
 parts_within schema s = parts_hold (λ (part : Part). part.start + part.len ≤ length s) schema s (omega arith) (λ start len h. h)
 
-pub parts_stand : (schema : Schema) (s : List ℕ) {slots : Slots} → view schema s ≡ kept slots → (k : ℕ) → moved 0 (slots k).part ≡ (slots k).part
+pub parts_stand : (schema : Schema) (s : List ℕ) {slots : Slots} → view schema s ≡ Ok slots → (k : ℕ) → moved 0 (slots k).part ≡ (slots k).part
 parts_stand schema s = parts_hold (λ (part : Part). moved 0 part ≡ part) schema s refl (λ start len h. ap (λ (n : ℕ). part_by n len) (zero-add start))

@@ -1,5 +1,6 @@
 -- The laws of dense nodes that are walked one at a time: the next row, its info and its pairs are the first node that is ahead, and what is
 -- behind each of them is ahead of the next.
+use Rattle.std.specs.Prelude.{Ok, Err}
 use Prim.Native.Nat.{ℕ, ◌+◌, ◌≤◌, ◌<◌}
 use mathlib.Core.Path.{◌≡◌, refl, sym, ap, ◌∙◌}
 use mathlib.Core.List.{List}
@@ -19,22 +20,19 @@ use Rattle.protobuf.specs.Answers.{step_by}
 use Rattle.protobuf.specs.Stream.{end, more}
 use Rattle.protobuf.specs.Column.{ColumnEnd, ended, cut, Column, column_from}
 use Rattle.protobuf.proofs.laws.Column.{step_one}
-use Rattle.fields.specs.Outcome.{Outcome, kept, refused, each}
+use Rattle.fields.specs.Outcome.{Outcome, each}
 use Rattle.fields.proofs.laws.Outcome.{each-kept, each-refused}
-use Rattle.block.specs.Infos.{Infos, NextInfo, present, missing, next_info}
-use Rattle.block.specs.Infos as next
+use Rattle.block.specs.Infos.{Infos, NextInfo, present, missing, stopped, next_info}
 use Rattle.block.specs.Tags.{NodePairs, rest_of, take_pairs}
 use Rattle.columns.specs.InStep.{ahead}
 use Rattle.columns.specs.Inside.{also, column_inside, behind_inside}
 use Rattle.columns.specs.KeysVals.{behind_of}
-use Rattle.columns.specs.declared.keys_vals.Behind.{Behind}
-use Rattle.columns.specs.declared.keys_vals.Behind.TheVariants as answer
 use Rattle.columns.proofs.laws.Inside.{also-true}
 use Rattle.columns.proofs.laws.InStep.{stepped}
 use Rattle.columns.proofs.laws.KeysVals.{tag-of-zero, behind-done}
 use Rattle.elements.specs.Element.{RowInfo, row, DenseItem}
 use Rattle.kinds.specs.Dense.{Row, Metadata, by_info, read_info, rows_end, behind_pairs, node_by, nodes_of}
-use Rattle.kinds.specs.Said.{zero_next, read, stopped, read_row}
+use Rattle.kinds.specs.Said.{zero_next, ReadRow, read_row}
 use Rattle.kinds.proofs.laws.Inside.{both_hold}
 
 -- ---- a node without pairs
@@ -60,7 +58,7 @@ module _ (s : List ℕ) (c : state.Column) (none : zero_next s c ≡ true) where
   pub byte_behind : column_inside s behind ≡ true
   byte_behind = also-true (le-leb (c.at + 1) c.end (omega (arith, within))) (le-leb c.end (length s) within.1)
 
-  pub byte_passed : kept (ahead s behind) ≡ each rest_of (take_pairs (ahead s c))
+  pub byte_passed : Ok (ahead s behind) ≡ each rest_of (take_pairs (ahead s c))
   byte_passed =
       let before : c.at ≡ c.end → ⊥ = λ e. omega (arith, within, e) in
       let one = step_one s c.at c.end (omega (arith, within)) within.1 before (omega (arith, zero-there)) in
@@ -70,15 +68,15 @@ module _ (s : List ℕ) (c : state.Column) (none : zero_next s c ≡ true) where
 
 -- the column behind them is inside, also where theirs is not: that is refused
 module _ (s : List ℕ) where
-  passed-by : (a b : Bool) (x : Column ℕ) (r : Behind) → (also a b ≡ true → behind_inside s r ≡ true)
+  passed-by : (a b : Bool) (x : Column ℕ) (r : Outcome state.Column) → (also a b ≡ true → behind_inside s r ≡ true)
       → behind_of s r ≡ each rest_of (take_pairs (choose a (choose b x (end (cut Outside))) (end (cut Outside)))) → behind_inside s r ≡ true
   unfolding each take_pairs
-  passed-by a b x (answer.Refused n) h e = refl
-  passed-by true true x (answer.Column next) h e = h refl
-  passed-by true false x (answer.Column next) h e = absurd (let z : ◌≡◌ {A = ℕ} 0 1 = cc in omega arith)
-  passed-by false b x (answer.Column next) h e = absurd (let z : ◌≡◌ {A = ℕ} 0 1 = cc in omega arith)
+  passed-by a b x (Err n) h e = refl
+  passed-by true true x (Ok next) h e = h refl
+  passed-by true false x (Ok next) h e = absurd (let z : ◌≡◌ {A = ℕ} 0 1 = cc in omega arith)
+  passed-by false b x (Ok next) h e = absurd (let z : ◌≡◌ {A = ℕ} 0 1 = cc in omega arith)
 
-  pub passed-inside : (c : state.Column) (r : Behind) → behind_of s r ≡ each rest_of (take_pairs (ahead s c))
+  pub passed-inside : (c : state.Column) (r : Outcome state.Column) → behind_of s r ≡ each rest_of (take_pairs (ahead s c))
       → (column_inside s c ≡ true → behind_inside s r ≡ true) → behind_inside s r ≡ true
   unfolding ahead
   passed-inside c r e h = passed-by (leb c.at c.end) (leb c.end (length s)) (column_from (take c.end s) c.at) r h e
@@ -106,49 +104,52 @@ plain_end keyvals {r} g = nodes-end none keyvals g ∙ plain-cut (eqb (number r)
 -- ---- pairs
 
 module _ {A : Type 0} (x : Outcome NodePairs) (others : Column ℕ → Column A) where
-  pub pairs-refused : {n : Refusal} → each rest_of x ≡ refused n → behind_pairs x others ≡ end (cut n)
+  pub pairs-refused : {n : Refusal} → each rest_of x ≡ Err n → behind_pairs x others ≡ end (cut n)
   pairs-refused e = ap (λ (y : Outcome NodePairs). behind_pairs y others) (each-refused rest_of x e)
 
-  pub pairs-kept : {rest : Column ℕ} → each rest_of x ≡ kept rest → behind_pairs x others ≡ others rest
+  pub pairs-kept : {rest : Column ℕ} → each rest_of x ≡ Ok rest → behind_pairs x others ≡ others rest
   pairs-kept e = let k = each-kept rest_of x e in ap (λ (y : Outcome NodePairs). behind_pairs y others) k.1 ∙ ap others k.2
 
 -- ---- infos
 
 module _ {A : Type 0} (with : RowInfo → Metadata → Column A) where
-  info-stopped : (n : NextInfo) {r : Refusal} → read_row n ≡ stopped r → by_info n with ≡ end (cut r)
-  info-stopped (present i rest) e = absurd (let z : ◌≡◌ {A = ℕ} 0 1 = cc in omega arith)
-  info-stopped (missing rest) e = absurd (let z : ◌≡◌ {A = ℕ} 0 1 = cc in omega arith)
-  info-stopped (next.stopped r) e = cc
+  abbrev by_row : ReadRow → Column A
+  by_row (Ok (i, x)) = with i (some x)
+  by_row (Err r) = end (cut r)
 
-  info-read : (n : NextInfo) {i : RowInfo} {x : Infos} → read_row n ≡ read i x → by_info n with ≡ with i (some x)
-  info-read (present i rest) e = cc
-  info-read (missing rest) e = cc
-  info-read (next.stopped r) e = absurd (let z : ◌≡◌ {A = ℕ} 0 1 = cc in omega arith)
+  info-row : (n : NextInfo) → by_info n with ≡ by_row (read_row n)
+  info-row (present i rest) = refl
+  info-row (missing rest) = refl
+  info-row (stopped r) = refl
+
+  -- by the row that is known to be read
+  info-is : (n : NextInfo) {r : ReadRow} → read_row n ≡ r → by_info n with ≡ by_row r
+  info-is n e = info-row n ∙ ap by_row e
 
 -- ---- a full walk's nodes
 
 module _ (x : Infos) (keyvals : Column ℕ) {rows : Column Row} where
-  pub full-end-stopped : {r : Refusal} → rows ≡ end ended → read_row (next_info x) ≡ stopped r → nodes_of rows (some x) keyvals ≡ end (cut r)
-  full-end-stopped g h = nodes-end (some x) keyvals g ∙ info-stopped (λ i others. end ended) (next_info x) h
+  pub full-end-stopped : {r : Refusal} → rows ≡ end ended → read_row (next_info x) ≡ Err r → nodes_of rows (some x) keyvals ≡ end (cut r)
+  full-end-stopped g h = nodes-end (some x) keyvals g ∙ info-is (λ i others. end ended) (next_info x) h
 
-  pub full-ended : {i : RowInfo} {y : Infos} → rows ≡ end ended → read_row (next_info x) ≡ read i y → nodes_of rows (some x) keyvals ≡ end ended
-  full-ended g h = nodes-end (some x) keyvals g ∙ info-read (λ i others. end ended) (next_info x) h
+  pub full-ended : {i : RowInfo} {y : Infos} → rows ≡ end ended → read_row (next_info x) ≡ Ok (i, y) → nodes_of rows (some x) keyvals ≡ end ended
+  full-ended g h = nodes-end (some x) keyvals g ∙ info-is (λ i others. end ended) (next_info x) h
 
   module _ {a : Row} {rest : Column Row} (g : rows ≡ more a rest) where
     abbrev with : RowInfo → Metadata → Column DenseItem
     with i others = behind_pairs (take_pairs keyvals) λ behind. more (node_by a keyvals i) (nodes_of rest others behind)
 
-    pub full-stopped : {r : Refusal} → read_row (next_info x) ≡ stopped r → nodes_of rows (some x) keyvals ≡ end (cut r)
-    full-stopped h = nodes-more (some x) keyvals g ∙ info-stopped with (next_info x) h
+    pub full-stopped : {r : Refusal} → read_row (next_info x) ≡ Err r → nodes_of rows (some x) keyvals ≡ end (cut r)
+    full-stopped h = nodes-more (some x) keyvals g ∙ info-is with (next_info x) h
 
-    module _ {i : RowInfo} {y : Infos} (h : read_row (next_info x) ≡ read i y) where
+    module _ {i : RowInfo} {y : Infos} (h : read_row (next_info x) ≡ Ok (i, y)) where
       to-pairs : nodes_of rows (some x) keyvals ≡ with i (some y)
-      to-pairs = nodes-more (some x) keyvals g ∙ info-read with (next_info x) h
+      to-pairs = nodes-more (some x) keyvals g ∙ info-is with (next_info x) h
 
-      pub full-pairs-refused : {n : Refusal} → each rest_of (take_pairs keyvals) ≡ refused n → nodes_of rows (some x) keyvals ≡ end (cut n)
+      pub full-pairs-refused : {n : Refusal} → each rest_of (take_pairs keyvals) ≡ Err n → nodes_of rows (some x) keyvals ≡ end (cut n)
       full-pairs-refused k = to-pairs ∙ pairs-refused (take_pairs keyvals) _ k
 
-      pub full-node : {behind : Column ℕ} → each rest_of (take_pairs keyvals) ≡ kept behind
+      pub full-node : {behind : Column ℕ} → each rest_of (take_pairs keyvals) ≡ Ok behind
           → nodes_of rows (some x) keyvals ≡ more (node_by a keyvals i) (nodes_of rest (some y) behind)
       full-node k = to-pairs ∙ pairs-kept (take_pairs keyvals) _ k
 
@@ -164,14 +165,15 @@ module _ (n : Refusal) (x : Infos) where
   refused-at_once h = sym (by_test (ne_eqb (number n) 12 h))
 
   module _ (h : number n ≡ 12) where
-    pub refused-stopped : {r : Refusal} → read_row (next_info x) ≡ stopped r → end (cut r) ≡ refused_end
-    refused-stopped k = sym (by_test (eq-eqb (number n) 12 h) ∙ info-stopped (λ i others. end (cut n)) (next_info x) k)
+    pub refused-stopped : {r : Refusal} → read_row (next_info x) ≡ Err r → end (cut r) ≡ refused_end
+    refused-stopped k = sym (by_test (eq-eqb (number n) 12 h) ∙ info-is (λ i others. end (cut n)) (next_info x) k)
 
-    pub refused-behind : {i : RowInfo} {y : Infos} → read_row (next_info x) ≡ read i y → end (cut n) ≡ refused_end
-    refused-behind k = sym (by_test (eq-eqb (number n) 12 h) ∙ info-read (λ i others. end (cut n)) (next_info x) k)
+    pub refused-behind : {i : RowInfo} {y : Infos} → read_row (next_info x) ≡ Ok (i, y) → end (cut n) ≡ refused_end
+    refused-behind k = sym (by_test (eq-eqb (number n) 12 h) ∙ info-is (λ i others. end (cut n)) (next_info x) k)
 
 -- an info row by the values that the machine holds
 pub info-held : {version version' timestamp timestamp' changeset changeset' uid uid' user user' : ℤ} {visible : Bool} (x : Infos) → version ≡ version' → timestamp ≡ timestamp' → changeset ≡ changeset' → uid ≡ uid' → user ≡ user'
-    → read (row (some (record { version = version; timestamp = timestamp; changeset = changeset; uid = uid; user = user; visible = visible }))) x
-    ≡ read (row (some (record { version = version'; timestamp = timestamp'; changeset = changeset'; uid = uid'; user = user'; visible = visible }))) x
-info-held {visible = visible} x v t c i u = λ k. read (row (some (record { version = v k; timestamp = t k; changeset = c k; uid = i k; user = u k; visible = visible }))) x
+    → ◌≡◌ {A = ReadRow}
+    (Ok (row (some (record { version = version; timestamp = timestamp; changeset = changeset; uid = uid; user = user; visible = visible })), x))
+    (Ok (row (some (record { version = version'; timestamp = timestamp'; changeset = changeset'; uid = uid'; user = user'; visible = visible })), x))
+info-held {visible = visible} x v t c i u = λ k. Ok (row (some (record { version = v k; timestamp = t k; changeset = c k; uid = i k; user = u k; visible = visible })), x)

@@ -1,5 +1,6 @@
 -- The laws of a group's messages that are walked one at a time: the first message of a field from a place on, and those behind its end, are
 -- all of them from that place on; what is viewed of it is the first that a walk has ahead.
+use Rattle.std.specs.Prelude.{Some, None, Ok, Err}
 use Prim.Native.Nat.{ℕ, zero, suc, ◌+◌, ◌-◌, ◌≤◌, ◌<◌}
 use mathlib.Core.Path.{◌≡◌, refl, sym, ap, ◌∙◌, subst}
 use mathlib.Core.List.{List, [], ◌∷◌, ◌++◌, map}
@@ -12,9 +13,11 @@ use borrow.Author.Tests.{leb-true, le-leb}
 use Rattle.protobuf.specs.declared.refusal.Refusal.{Refusal}
 use Rattle.protobuf.specs.declared.refusal.Refusal.TheVariants.{Outside}
 use Rattle.numbers.specs.Choose.{choose}
-use Rattle.protobuf.specs.Tag.{Tag, TagAt, done, tagged, untagged, tag_at}
-use Rattle.protobuf.specs.Read.{Read, taken, refused}
-use Rattle.message.specs.Payload.{Payload, payload}
+use Rattle.protobuf.specs.declared.tag.Tag.{Tag}
+use Rattle.protobuf.specs.Tag.{TagAt, tag_at}
+use Rattle.protobuf.specs.Read.{Read}
+use Rattle.message.specs.declared.payload.Payload.{Payload}
+use Rattle.message.specs.Payload.{payload}
 use Rattle.protobuf.specs.Stream.{end, more, Item, last, item, follow}
 use Rattle.protobuf.specs.Column.{ended, cut, Column}
 use Rattle.message.specs.Message.{Field, MessageEnd, with_payload, with_tag, field_at, message_from}
@@ -22,15 +25,13 @@ use Rattle.message.proofs.laws.Message.{message-from, fields-forward}
 use Rattle.message.proofs.laws.Within.{part-ends}
 use Rattle.fields.specs.declared.part.Part.{Part}
 use Rattle.fields.specs.Outcome as outcome
-use Rattle.fields.specs.Outcome.{Outcome, kept}
+use Rattle.fields.specs.Outcome.{Outcome}
 use Rattle.fields.specs.Part.{part_by, no_part, moved}
 use Rattle.fields.specs.Parts.{is_part, parts_of}
 use Rattle.groups.specs.declared.group.MessagePlace.{MessagePlace}
-use Rattle.groups.specs.declared.group.WireMessageIter.{WireMessageIter}
 use Rattle.groups.specs.declared.group.WireMessageIter.TheVariants as iter
-use Rattle.groups.specs.declared.group.MessageStep.{MessageStep}
-use Rattle.groups.specs.declared.group.MessageStep.TheVariants as step
-use Rattle.groups.specs.Group.{first_part, message_by, message_at}
+use Rattle.fields.specs.Step.{refused}
+use Rattle.groups.specs.Group.{MessageStep, first_part, message_by, message_at}
 use Rattle.columns.proofs.laws.Inside.{also-true}
 use Rattle.elements.specs.Element.{Item as Shown}
 use Rattle.kinds.specs.declared.state.Messages.{Messages}
@@ -42,16 +43,16 @@ use Rattle.kinds.proofs.laws.Inside.{both_hold}
 
 module _ (s : List ℕ) where
   payload-ends : (t : Tag) (q : ℕ) (r : Read Payload) {f : Field} {k : ℕ} → payload s t q ≡ r → with_payload t r ≡ item f k → f.payload.start + f.payload.len ≡ k
-  payload-ends t q (taken v n) {f} {k} e g =
+  payload-ends t q (Ok (v, n)) {f} {k} e g =
       let same : v ≡ f.payload = cc in
       let behind : n ≡ k = cc in
       subst (λ (x : Payload). x.start + x.len ≡ k) same (part-ends s t q e ∙ behind)
-  payload-ends t q (refused n) e g = absurd (let z : ◌≡◌ {A = ℕ} 0 1 = cc in omega arith)
+  payload-ends t q (Err n) e g = absurd (let z : ◌≡◌ {A = ℕ} 0 1 = cc in omega arith)
 
   tag-ends : (a : TagAt) {f : Field} {k : ℕ} → with_tag s a ≡ item f k → f.payload.start + f.payload.len ≡ k
-  tag-ends done g = absurd (let z : ◌≡◌ {A = ℕ} 0 1 = cc in omega arith)
-  tag-ends (untagged n) g = absurd (let z : ◌≡◌ {A = ℕ} 0 1 = cc in omega arith)
-  tag-ends (tagged t q) g = payload-ends t q (payload s t q) refl g
+  tag-ends (Ok None) g = absurd (let z : ◌≡◌ {A = ℕ} 0 1 = cc in omega arith)
+  tag-ends (Err n) g = absurd (let z : ◌≡◌ {A = ℕ} 0 1 = cc in omega arith)
+  tag-ends (Ok (Some (t, q))) g = payload-ends t q (payload s t q) refl g
 
   field-ends : (p : ℕ) {f : Field} {k : ℕ} → field_at s p ≡ item f k → f.payload.start + f.payload.len ≡ k
   unfolding field_at
@@ -122,7 +123,7 @@ module _ (s : List ℕ) (m : Messages) where
 
   -- the step's answer and what is ahead, by whether the place is inside
   abbrev answer : Bool → Part → MessageStep
-  answer b first = choose b (message_by (placed field) first) (step.Refused Outside iter.Ended)
+  answer b first = choose b (message_by (placed field) first) (refused Outside iter.Ended)
 
   abbrev from : Bool → List Part → Column Placed
   from b parts = choose b (shown parts) (end (cut Outside))
@@ -132,21 +133,21 @@ module _ (s : List ℕ) (m : Messages) where
   unfolding message_at
   step_by {k} e g = g ∙ ap (λ (n : ℕ). message_at s (placed n)) e
 
-  by_end : {first : Part} {parts : List Part} {x : WireMessageIter} (b : Bool) → Parts field group first parts
-      → answer b first ≡ step.Ended x → from b parts ≡ end ended
+  by_end : {first : Part} {parts : List Part} (b : Bool) → Parts field group first parts
+      → (answer b first).said ≡ Ok None → from b parts ≡ end ended
   unfolding viewed_all
   by_end true no-part e = refl
   by_end true (part-and start len h) e = absurd (let z : ◌≡◌ {A = ℕ} 0 1 = cc in omega arith)
   by_end false p e = absurd (let z : ◌≡◌ {A = ℕ} 0 1 = cc in omega arith)
 
-  by_refusal : {first : Part} {parts : List Part} {n : Refusal} {x : WireMessageIter} (b : Bool) → Parts field group first parts
-      → answer b first ≡ step.Refused n x → from b parts ≡ end (cut n)
+  by_refusal : {first : Part} {parts : List Part} {n : Refusal} (b : Bool) → Parts field group first parts
+      → (answer b first).said ≡ Err n → from b parts ≡ end (cut n)
   by_refusal true no-part e = absurd (let z : ◌≡◌ {A = ℕ} 0 1 = cc in omega arith)
   by_refusal true (part-and start len h) e = absurd (let z : ◌≡◌ {A = ℕ} 0 1 = cc in omega arith)
   by_refusal false p e = cc
 
-  by-message : {first : Part} {parts : List Part} {part : Part} {next : WireMessageIter} (b : Bool) → messages_inside s m ≡ b
-      → Parts field group first parts → from b parts ≡ loose_from s m → answer b first ≡ step.Message part next → Finds s m part
+  by-message : {first : Part} {parts : List Part} {part : Part} (b : Bool) → messages_inside s m ≡ b
+      → Parts field group first parts → from b parts ≡ loose_from s m → (answer b first).said ≡ Ok (Some part) → Finds s m part
   unfolding viewed_all
   by-message false t p is e = absurd (let z : ◌≡◌ {A = ℕ} 0 1 = cc in omega arith)
   by-message true t no-part is e = absurd (let z : ◌≡◌ {A = ℕ} 0 1 = cc in omega arith)
@@ -170,25 +171,25 @@ module _ (s : List ℕ) (m : Messages) where
       })
 
   module _ {k : ℕ} {r : MessageStep} (e : k ≡ field) (g : r ≡ message_at s (placed k)) where
-    pub loose-ends : {x : WireMessageIter} → r ≡ step.Ended x → loose_from s m ≡ end ended
+    pub loose-ends : r.said ≡ Ok None → loose_from s m ≡ end ended
     unfolding loose_from
-    loose-ends t = by_end (messages_inside s m) (parts-by field group m.at) (sym (step_by e g) ∙ t)
+    loose-ends t = by_end (messages_inside s m) (parts-by field group m.at) (sym (ap (λ (x : MessageStep). x.said) (step_by e g)) ∙ t)
 
-    pub loose-outside : {n : Refusal} {x : WireMessageIter} → r ≡ step.Refused n x → loose_from s m ≡ end (cut n)
+    pub loose-outside : {n : Refusal} → r.said ≡ Err n → loose_from s m ≡ end (cut n)
     unfolding loose_from
-    loose-outside t = by_refusal (messages_inside s m) (parts-by field group m.at) (sym (step_by e g) ∙ t)
+    loose-outside t = by_refusal (messages_inside s m) (parts-by field group m.at) (sym (ap (λ (x : MessageStep). x.said) (step_by e g)) ∙ t)
 
-    pub finds : {part : Part} {next : WireMessageIter} → r ≡ step.Message part next → Finds s m part
+    pub finds : {part : Part} → r.said ≡ Ok (Some part) → Finds s m part
     unfolding loose_from
-    finds t = by-message (messages_inside s m) refl (parts-by field group m.at) refl (sym (step_by e g) ∙ t)
+    finds t = by-message (messages_inside s m) refl (parts-by field group m.at) refl (sym (ap (λ (x : MessageStep). x.said) (step_by e g)) ∙ t)
 
 -- the first that is ahead, where a message is found: what its view refuses ends the walk
 module _ {s : List ℕ} {m : Messages} {part : Part} (f : Finds s m part) where
   abbrev others : Column Placed
   others = loose_from s (at_place m (part.start + part.len - m.of.start))
 
-  pub found-refused : {n : Refusal} → viewed_as m.full m.kind s part ≡ outcome.refused n → loose_from s m ≡ end (cut n)
+  pub found-refused : {n : Refusal} → viewed_as m.full m.kind s part ≡ Err n → loose_from s m ≡ end (cut n)
   found-refused e = f.so ∙ ap (λ (x : Outcome Shown). item_then part x others) e
 
-  pub found-kept : {i : Shown} → viewed_as m.full m.kind s part ≡ kept i → loose_from s m ≡ more (record { message = part; item = i }) others
+  pub found-kept : {i : Shown} → viewed_as m.full m.kind s part ≡ Ok i → loose_from s m ≡ more (record { message = part; item = i }) others
   found-kept e = f.so ∙ ap (λ (x : Outcome Shown). item_then part x others) e

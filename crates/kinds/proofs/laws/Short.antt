@@ -1,4 +1,5 @@
 -- The laws of a dense node whose values are told by words: its row is the next one, and so is the node, where its pairs are passed.
+use Rattle.std.specs.Prelude.{Ok, Err}
 use Prim.Native.Nat.{ℕ}
 use mathlib.Core.Path.{◌≡◌, refl, sym, ap, ◌∙◌, subst}
 use mathlib.Core.List.{List}
@@ -10,14 +11,14 @@ use Rattle.protobuf.specs.declared.column.Column as state
 use Rattle.protobuf.specs.Stream.{end}
 use Rattle.protobuf.specs.Column.{ColumnEnd, Column, step_at}
 use Rattle.protobuf.specs.Short.{Short}
-use Rattle.fields.specs.Outcome.{Outcome, kept, refused, each}
+use Rattle.fields.specs.Outcome.{Outcome, each}
 use Rattle.block.specs.Tags.{rest_of, take_pairs}
 use Rattle.columns.specs.declared.sums.Sum64.{Sum64}
 use Rattle.columns.specs.Inside.{column_inside}
 use Rattle.columns.specs.InStep.{ahead}
 use Rattle.columns.specs.Zip.{moved_sum}
 use Rattle.columns.proofs.laws.Inside.{also-true}
-use Rattle.columns.proofs.laws.Zip.{told_is, zipped}
+use Rattle.columns.proofs.laws.Zip.{zipped-more}
 use Rattle.columns.proofs.laws.Short.{sum_word, word_inside}
 use Rattle.kinds.specs.declared.state.DenseColumns.{DenseColumns}
 use Rattle.kinds.specs.declared.dense_nodes.DenseStep.TheVariants as dense
@@ -39,9 +40,9 @@ module _ (s : List ℕ) (d : DenseColumns) {id lat lon : ℕ} (i : Word s d.rows
   abbrev pairs : Outcome (Column ℕ)
   pairs = each rest_of (take_pairs (ahead s d.keyvals))
 
-  pub short-found : (to : state.Column) {r : NextNode} → pairs ≡ kept (ahead s to) → column_inside s to ≡ true → r ≡ record { found = 1; columns = behind to } → NodeSaid s d r
+  pub short-found : (to : state.Column) {r : NextNode} → pairs ≡ Ok (ahead s to) → column_inside s to ≡ true → r ≡ record { found = 1; columns = behind to } → NodeSaid s d r
   short-found to passed there e =
-      let row = told_is (zipped (sum_word s d.rows.ids some_id i) (zipped (sum_word s d.rows.lats some-lat y) (sum_word s d.rows.lons some-lon x) refl) refl) refl in
+      let row = zipped-more (sum_word s d.rows.ids some_id i) (zipped-more (sum_word s d.rows.lats some-lat y) (sum_word s d.rows.lons some-lon x)) in
       subst (NodeSaid s d) (sym e)
       (record {
         node = λ h. sym (nodes-more none _ row ∙ pairs-kept _ _ passed);
@@ -53,9 +54,9 @@ module _ (s : List ℕ) (d : DenseColumns) {id lat lon : ℕ} (i : Word s d.rows
         none = λ z. absurd (omega arith);
       })
 
-  pub short-refused : {n : Refusal} → pairs ≡ refused n → NodeSaid s d (record { found = 0; columns = d })
+  pub short-refused : {n : Refusal} → pairs ≡ Err n → NodeSaid s d (record { found = 0; columns = d })
   short-refused e =
-      let row = told_is (zipped (sum_word s d.rows.ids some_id i) (zipped (sum_word s d.rows.lats some-lat y) (sum_word s d.rows.lons some-lon x) refl) refl) refl in
+      let row = zipped-more (sum_word s d.rows.ids some_id i) (zipped-more (sum_word s d.rows.lats some-lat y) (sum_word s d.rows.lons some-lon x)) in
       record { node = λ k. absurd (k refl); inside = λ k. absurd (k refl); none = λ z. ap is_end (nodes-more none _ row ∙ pairs-refused _ _ e) }
 
 -- ---- by what `next_dense` says

@@ -1,5 +1,6 @@
 -- Laws of lookups through the tables: a test by a difference, which cannot wrap, is the one by a sum; and what `get_at` and `group_at` answer
 -- under each test.
+use Rattle.std.specs.Prelude.{Some, None, Ok, Err}
 use Prim.Native.Nat.{ℕ, ◌+◌, ◌-◌, ◌*◌, ◌/◌, ◌≤◌, ◌<◌}
 use mathlib.Core.Path.{◌≡◌, refl, sym, ap, ◌∙◌}
 use mathlib.Core.List.{List}
@@ -13,8 +14,6 @@ use Rattle.numbers.specs.Choose.{choose}
 use Rattle.numbers.proofs.laws.Choose.{same_test}
 use Rattle.fields.specs.declared.part.Part.{Part}
 use Rattle.wire.specs.declared.record.WireBlock.{WireBlock}
-use Rattle.lookup.specs.declared.by_number.Got.TheVariants as got
-use Rattle.lookup.specs.declared.by_number.GroupRange.TheVariants as range
 use Rattle.fields.specs.Part.{is_inside}
 use Rattle.lookup.specs.Lookup.{entry_at, get_at, is_record_inside, group_at}
 
@@ -43,11 +42,11 @@ second-fails true x y = refl
 second-fails false x y = refl
 
 module _ (s : List ℕ) (r : WireBlock) (index : ℕ) where
-  pub get_past-count : r.strings ≤ index → got.None ≡ get_at s r index
+  pub get_past-count : r.strings ≤ index → Ok None ≡ get_at s r index
   unfolding get_at
   get_past-count h = simp (le-ltb _ _ h)
 
-  pub get_past-table : length s < r.stringtable + 8 * index + 8 → got.None ≡ get_at s r index
+  pub get_past-table : length s < r.stringtable + 8 * index + 8 → Ok None ≡ get_at s r index
   unfolding get_at
   get_past-table h = simp (lt-leb _ _ h) (second-fails (ltb index r.strings) _ _)
 
@@ -60,36 +59,36 @@ module _ (s : List ℕ) (r : WireBlock) (index : ℕ) where
     entry-outside e = let past = leb-false _ _ e in omega (arith, past, some)
 
   module _ (below : index < r.strings) (room : r.stringtable + 8 * index + 8 ≤ length s) where
-    get_entry : answered got.Text (got.Refused Outside) s (entry_at s (r.stringtable + 8 * index)) ≡ get_at s r index
+    get_entry : answered (λ p. Ok (Some p)) (Err Outside) s (entry_at s (r.stringtable + 8 * index)) ≡ get_at s r index
     unfolding get_at
     get_entry = simp (lt-ltb _ _ below, le-leb _ _ room)
 
     module _ {p : Part} (g : p ≡ entry_at s (r.stringtable + 8 * index)) where
-      pub get_text : is_inside s p ≡ true → got.Text p ≡ get_at s r index
-      get_text h = answers-part got.Text (got.Refused Outside) s g h ∙ get_entry
+      pub get_text : is_inside s p ≡ true → Ok (Some p) ≡ get_at s r index
+      get_text h = answers-part (λ p. Ok (Some p)) (Err Outside) s g h ∙ get_entry
 
-      pub get_refused : is_inside s p ≡ false → got.Refused Outside ≡ get_at s r index
-      get_refused h = answers-other got.Text (got.Refused Outside) s g h ∙ get_entry
+      pub get_refused : is_inside s p ≡ false → Err Outside ≡ get_at s r index
+      get_refused h = answers-other (λ p. Ok (Some p)) (Err Outside) s g h ∙ get_entry
 
-  pub group-outside : is_record_inside s r ≡ false → range.Refused Outside ≡ group_at s r index
+  pub group-outside : is_record_inside s r ≡ false → Err Outside ≡ group_at s r index
   unfolding group_at
   group-outside h = simp h
 
-  pub group-past-count : r.groups ≤ index → range.Refused Outside ≡ group_at s r index
+  pub group-past-count : r.groups ≤ index → Err Outside ≡ group_at s r index
   unfolding group_at
   group-past-count h = simp (le-ltb _ _ h) (second-fails (is_record_inside s r) _ _)
 
   module _ (inside : is_record_inside s r ≡ true) (below : index < r.groups) where
-    group-entry : answered range.Range (range.Refused Outside) s (entry_at s (r.grouptable + 8 * index)) ≡ group_at s r index
+    group-entry : answered Ok (Err Outside) s (entry_at s (r.grouptable + 8 * index)) ≡ group_at s r index
     unfolding group_at
     group-entry = simp (inside, lt-ltb _ _ below)
 
     module _ {p : Part} (g : p ≡ entry_at s (r.grouptable + 8 * index)) where
-      pub group-range : is_inside s p ≡ true → range.Range p ≡ group_at s r index
-      group-range h = answers-part range.Range (range.Refused Outside) s g h ∙ group-entry
+      pub group-range : is_inside s p ≡ true → Ok p ≡ group_at s r index
+      group-range h = answers-part Ok (Err Outside) s g h ∙ group-entry
 
-      pub group-refused : is_inside s p ≡ false → range.Refused Outside ≡ group_at s r index
-      group-refused h = answers-other range.Range (range.Refused Outside) s g h ∙ group-entry
+      pub group-refused : is_inside s p ≡ false → Err Outside ≡ group_at s r index
+      group-refused h = answers-other Ok (Err Outside) s g h ∙ group-entry
 
 -- ---- records
 
@@ -104,3 +103,7 @@ record-inside s r h =
     let block = both (leb r.block (length s)) _ h in
     let tables = both (leb (r.stringtable + 8 * r.strings) (length s)) _ block.1 in
     (leb-true _ _ block.0, leb-true _ _ tables.0, leb-true _ _ tables.1)
+
+-- so the entry of a group below the count is inside
+pub group-room : (s : List ℕ) (r : WireBlock) (index : ℕ) → is_record_inside s r ≡ true → index < r.groups → r.grouptable + 8 * index + 8 ≤ length s
+group-room s r index h below = omega (arith, record-inside s r h)

@@ -1,9 +1,11 @@
 -- On the buffer and the record that a scan left, the tables name the strings and the groups of the block's own bytes, and those bytes are as
 -- they were.
+use Rattle.std.specs.Prelude.{Option, Some, Ok}
 use Prim.Native.Nat.{ℕ, ◌+◌, ◌*◌, ◌≤◌, ◌<◌}
 use mathlib.Core.Path.{◌≡◌, refl, sym, ap, ◌∙◌}
 use mathlib.Core.List.{List, ◌++◌, map, append_assoc}
-use mathlib.Core.Option.{Option, none, some}
+use mathlib.Core.Option.{none, some}
+use mathlib.Core.Option as math
 use mathlib.Core.Bool.{true}
 use native.Mathlib.Omega.{arith}
 use lib.ListN.{length, take, drop, get_elem?, length-append, length-map}
@@ -15,12 +17,9 @@ use Rattle.message.proofs.laws.Message.{all-within}
 use Rattle.fields.specs.declared.part.Part.{Part}
 use Rattle.fields.specs.Part.{bytes_in, moved}
 use Rattle.fields.specs.Parts.{parts_of}
+use Rattle.fields.specs.Outcome.{Outcome}
 use Rattle.wire.specs.declared.record.WireBlock.{WireBlock}
 use Rattle.wire.specs.declared.primitive_block.BlockFields.{BlockFields}
-use Rattle.lookup.specs.declared.by_number.Got.{Got}
-use Rattle.lookup.specs.declared.by_number.Got.TheVariants as got
-use Rattle.lookup.specs.declared.by_number.GroupRange.{GroupRange}
-use Rattle.lookup.specs.declared.by_number.GroupRange.TheVariants as range
 use Rattle.wire.specs.Scan.{Scanned, string_bytes, tables, record_by, Scanned-as}
 use Rattle.lookup.specs.Lookup.{is_record_inside, get_at, group_at, string_parts, group_parts, got_by, range_by, string_of, group_of}
 use Rattle.lookup.proofs.laws.Lookup.{record-inside, get_past-count, get_text, group-past-count, group-range}
@@ -119,7 +118,7 @@ module _ {s : List ℕ} {r : WireBlock} {b : List ℕ} {n : ℕ} (w : Scanned-as
   pub scanned_get : (i : ℕ) → get_at s r i ≡ string_of block i
   scanned_get i = by (get_elem? (string_parts block) i) refl
     where
-      by : (x : Option Part) → get_elem? (string_parts block) i ≡ x → get_at s r i ≡ got_by x
+      by : (x : math.Option Part) → get_elem? (string_parts block) i ≡ x → get_at s r i ≡ got_by x
       by none e = sym (get_past-count s r i (omega (arith, strings-counted, none-past (string_parts block) i e)))
       by (some p) e =
           let entry = named-at strings-named i e in
@@ -129,30 +128,30 @@ module _ {s : List ℕ} {r : WireBlock} {b : List ℕ} {n : ℕ} (w : Scanned-as
   pub scanned-group : (i : ℕ) → group_at s r i ≡ group_of block i
   scanned-group i = by (get_elem? (group_parts block) i) refl
     where
-      by : (x : Option Part) → get_elem? (group_parts block) i ≡ x → group_at s r i ≡ range_by x
+      by : (x : math.Option Part) → get_elem? (group_parts block) i ≡ x → group_at s r i ≡ range_by x
       by none e = sym (group-past-count s r i (omega (arith, groups-counted, none-past (group_parts block) i e)))
       by (some p) e =
           let entry = named-at groups-named i e in
           sym (group-range s r i record-stands (omega (arith, groups-counted)) (sym entry.0) (le-leb (p.start + p.len) (length s) (omega (arith, block_inside))))
 
   -- the bytes of a string or a group that is answered are those in the block
-  pub string_stands : (i : ℕ) {p : Part} → string_of block i ≡ got.Text p → bytes_in s p ≡ bytes_in block p
+  pub string_stands : (i : ℕ) {p : Part} → string_of block i ≡ Ok (Some p) → bytes_in s p ≡ bytes_in block p
   string_stands i e = by (get_elem? (string_parts block) i) refl e
     where
-      by : (x : Option Part) {p : Part} → get_elem? (string_parts block) i ≡ x → got_by x ≡ got.Text p → bytes_in s p ≡ bytes_in block p
+      by : (x : math.Option Part) {p : Part} → get_elem? (string_parts block) i ≡ x → got_by x ≡ Ok (Some p) → bytes_in s p ≡ bytes_in block p
       by none g h = absurd (let z : ◌≡◌ {A = ℕ} 0 1 = cc in omega arith)
       by (some q) {p} g h = let same : q ≡ p = cc in same_bytes p (named-at strings-named i (g ∙ ap some same)).1
 
-  pub group-stands : (i : ℕ) {p : Part} → group_of block i ≡ range.Range p → bytes_in s p ≡ bytes_in block p
+  pub group-stands : (i : ℕ) {p : Part} → group_of block i ≡ Ok p → bytes_in s p ≡ bytes_in block p
   group-stands i e = by (get_elem? (group_parts block) i) refl e
     where
-      by : (x : Option Part) {p : Part} → get_elem? (group_parts block) i ≡ x → range_by x ≡ range.Range p → bytes_in s p ≡ bytes_in block p
+      by : (x : math.Option Part) {p : Part} → get_elem? (group_parts block) i ≡ x → range_by x ≡ Ok p → bytes_in s p ≡ bytes_in block p
       by none g h = absurd (let z : ◌≡◌ {A = ℕ} 0 1 = cc in omega arith)
       by (some q) {p} g h = let same : q ≡ p = cc in same_bytes p (named-at groups-named i (g ∙ ap some same)).1
 
 -- both clauses of a lookup's contract, by the first
-pub get_clauses : (s : List ℕ) (r : WireBlock) (i : ℕ) {x : Got} → x ≡ get_at s r i → (x ≡ get_at s r i) × ((b : List ℕ) (n : ℕ) → Scanned-as s r b n → x ≡ string_of (take n b) i)
+pub get_clauses : (s : List ℕ) (r : WireBlock) (i : ℕ) {x : Outcome (Option Part)} → x ≡ get_at s r i → (x ≡ get_at s r i) × ((b : List ℕ) (n : ℕ) → Scanned-as s r b n → x ≡ string_of (take n b) i)
 get_clauses s r i e = (e, λ b n w. e ∙ scanned_get w i)
 
-pub group_clauses : (s : List ℕ) (r : WireBlock) (i : ℕ) {x : GroupRange} → x ≡ group_at s r i → (x ≡ group_at s r i) × ((b : List ℕ) (n : ℕ) → Scanned-as s r b n → x ≡ group_of (take n b) i)
+pub group_clauses : (s : List ℕ) (r : WireBlock) (i : ℕ) {x : Outcome Part} → x ≡ group_at s r i → (x ≡ group_at s r i) × ((b : List ℕ) (n : ℕ) → Scanned-as s r b n → x ≡ group_of (take n b) i)
 group_clauses s r i e = (e, λ b n w. e ∙ scanned-group w i)

@@ -1,5 +1,6 @@
 -- Laws of members that go by a short way: the words of a role, of a memid and of a type tell the next member, and a role and a type that are
 -- small numbers are put as they stand.
+use Rattle.std.specs.Prelude.{Ok, Some}
 use Prim.Native.Nat.{ℕ, zero, suc, ◌/◌, ◌^◌, ◌≤◌, ◌<◌}
 use native.Mathlib.Nat.{mod-eq_of_lt}
 use native.Mathlib.Omega.{arith}
@@ -14,12 +15,10 @@ use Rattle.protobuf.specs.Column.{step_at}
 use Rattle.protobuf.specs.Short.{Short}
 use Rattle.wire.specs.declared.record.WireBlock.{WireBlock}
 use Rattle.lookup.specs.Lookup.{is_record_inside}
-use Rattle.columns.specs.declared.told.Told.TheVariants as told
 use Rattle.columns.specs.declared.zip.MemberColumns.{MemberColumns}
-use Rattle.columns.specs.declared.zip.MemberStep.{MemberStep}
 use Rattle.columns.specs.Zip.{both}
 use Rattle.columns.proofs.laws.Inside.{also-true}
-use Rattle.columns.proofs.laws.Zip.{typed, summed, zipped}
+use Rattle.columns.proofs.laws.Zip.{mapped-more, summed-more, zipped-more}
 use Rattle.columns.proofs.laws.Short.{behind_word, word_tells, word_stands, word_inside}
 use Rattle.elements.specs.declared.members.RelMemberIter.TheVariants as iter
 use Rattle.elements.specs.Members.{id_by, member_of, members_from}
@@ -61,12 +60,12 @@ module _ (s : List ℕ) (b : WireBlock) (h : is_record_inside s b ≡ true) (c :
       → ItemPut member_item (members_from s b) (iter.Members c) out at 0 (iter.Members (record { roles = behind_word c.roles role; memids = record { column = behind_word c.memids.column id; sum = sum }; types = behind_word c.types kind })) after
   member-put sum {out} {at} small known added put =
       let next : MemberColumns = record { roles = behind_word c.roles role; memids = record { column = behind_word c.memids.column id; sum = sum }; types = behind_word c.types kind } in
-      let step : MemberStep = record { told = told.Value; role = pos (role / 16); kind = pos (kind / 16); next = next } in
-      let roles = typed (twos 32) (word_tells s c.roles r.some r.tells) (small-int32 (role / 16) small) in
-      let memids = summed 64 c.memids.sum (typed (zigzag 64) (word_tells s c.memids.column i.some i.tells) refl) added in
-      let types = typed (twos 32) (word_tells s c.types k.some k.tells) (small-int32 (kind / 16) (omega arith)) in
+      let member = Ok (Some ((pos (role / 16), pos (kind / 16)), next)) in
+      let roles = mapped-more (twos 32) (word_tells s c.roles r.some r.tells) (small-int32 (role / 16) small) in
+      let memids = summed-more 64 c.memids.sum (mapped-more (zigzag 64) (word_tells s c.memids.column i.some i.tells) refl) added in
+      let types = mapped-more (twos 32) (word_tells s c.types k.some k.tells) (small-int32 (kind / 16) (omega arith)) in
       let here = also-true (word_stands s c.roles r.some r.tells) (also-true (word_stands s c.memids.column i.some i.tells) (word_stands s c.types k.some k.tells)) in
       let behind = also-true (word_inside s c.roles r.some r.tells) (also-true (word_inside s c.memids.column i.some i.tells) (word_inside s c.types k.some k.tells)) in
       puts-item member_item (members_from s b) (member_of (both (pos (role / 16)) (both sum (pos (kind / 16)))))
-      (member-told s b h c step here (zipped roles (zipped memids types refl) refl).so behind refl refl)
+      (member-told s b h c {r = member} {known = member} here (sym (zipped-more roles (zipped-more memids types))) behind refl)
       (put ∙ ap (filled_at out at) (small_type (role / 16) (kind / 16) sum known ∙ ap (λ (n : ℕ). member_item_by n (id_by (pos (kind / 16)) sum)) (small_word (role / 16) small)))

@@ -1,5 +1,6 @@
 -- Laws of skipped groups: they end within the bytes; the fields of a group are its first field and the fields from there on, however many
 -- may still come; and the groups that are open at a time are the same as a stack of their numbers, which is what a loop remembers.
+use Rattle.std.specs.Prelude.{Ok, Err, Some, None}
 use Prim.Native.Nat.{ℕ, zero, suc, ◌+◌, ◌-◌, ◌≤◌, ◌<◌}
 use mathlib.Core.Path.{◌≡◌, refl, sym, ap, ◌∙◌}
 use mathlib.Core.List.{List}
@@ -10,10 +11,12 @@ use lib.Dec.{leb, eqb}
 use borrow.Author.Tests.{le-leb, lt-leb, leb-true, eq-eqb, ne_eqb}
 use Rattle.protobuf.specs.declared.refusal.Refusal.{Refusal}
 use Rattle.protobuf.specs.declared.refusal.Refusal.TheVariants.{WireType as BadWireType, PastEnd, GroupDepth, Outside}
-use Rattle.protobuf.specs.Read.{Read, taken, refused, and_then}
+use Rattle.protobuf.specs.Read.{Read, and_then}
 use Rattle.numbers.specs.Choose.{choose}
-use Rattle.protobuf.specs.Tag.{Tag, tag_by, tag, done, tagged, untagged, tag_at, WireType, wire_type, VARINT, I64, LEN, SGROUP, EGROUP, I32, reserved}
-use Rattle.message.specs.Payload.{Payload, payload_of, value_by, closes, field_in, fields_of, group_by, payload}
+use Rattle.protobuf.specs.declared.tag.Tag.{Tag}
+use Rattle.protobuf.specs.Tag.{tag_by, tag, TagAt, tag_at, WireType, wire_type, VARINT, I64, LEN, SGROUP, EGROUP, I32, reserved}
+use Rattle.message.specs.declared.payload.Payload.{Payload}
+use Rattle.message.specs.Payload.{payload_of, value_by, closes, field_in, fields_of, group_by, payload}
 use Rattle.protobuf.proofs.laws.Read.{and_then-same, and_then_assoc, and_then_unit, goes_on, handed-up, Reach, to, nowhere, reach_and_then, reach_choose, reach_down, reached}
 use Rattle.protobuf.proofs.laws.Tag.{tag_reach, done_at_end, tagged-tag, untagged-tag}
 use Rattle.message.proofs.laws.Payload.{raw_reach, delimited_reach, fixed_reach}
@@ -67,7 +70,7 @@ group_reach (suc room) s f p =
 -- ---- the fields of a group are its first field and the fields from there on
 
 module _ (s : List ℕ) (group : ℕ → ℕ → Read Unit) (b : Bounded s group) (f : ℕ) where
-  field_end : (rest : ℕ → Read Unit) (p : ℕ) → length s ≤ p → field_in group s f rest p ≡ refused PastEnd
+  field_end : (rest : ℕ → Read Unit) (p : ℕ) → length s ≤ p → field_in group s f rest p ≡ Err PastEnd
   unfolding field_in
   field_end rest p h = simp (le-leb _ _ h)
 
@@ -75,11 +78,11 @@ module _ (s : List ℕ) (group : ℕ → ℕ → Read Unit) (b : Bounded s group
   field-same : (rest rest' : ℕ → Read Unit) (p : ℕ) → ((r : ℕ) → p < r → r ≤ length s → rest r ≡ rest' r) → field_in group s f rest p ≡ field_in group s f rest' p
   unfolding field_in
   field-same rest rest' p e =
-      ap (choose (leb (length s) p) (refused PastEnd))
+      ap (choose (leb (length s) p) (Err PastEnd))
       (and_then-same (tag s p) _ _
       λ t q et.
       let ht = reached (tag_reach s p) et in
-      ap (closes (wire_type t.wire) (choose (eqb t.field f) (taken tt q) (refused BadWireType)))
+      ap (closes (wire_type t.wire) (choose (eqb t.field f) (Ok (tt, q)) (Err BadWireType)))
       (and_then-same (value_by group s (wire_type t.wire) t.field q) _ _
       λ v r ev.
       let hv = reached (value_reach s group b (wire_type t.wire) t.field q ht.1) ev in
@@ -124,7 +127,7 @@ module _ (s : List ℕ) (p : ℕ) where
   pub single_of : {w k : ℕ} {x : Read Payload} → w ≡ k → x ≡ single k → x ≡ single w
   single_of e g = g ∙ ap single (sym e)
 
-  pub single-none : (w : ℕ) → (w ≡ 0 → ⊥) → (w ≡ 1 → ⊥) → (w ≡ 2 → ⊥) → (w ≡ 3 → ⊥) → (w ≡ 5 → ⊥) → refused BadWireType ≡ single w
+  pub single-none : (w : ℕ) → (w ≡ 0 → ⊥) → (w ≡ 1 → ⊥) → (w ≡ 2 → ⊥) → (w ≡ 3 → ⊥) → (w ≡ 5 → ⊥) → Err BadWireType ≡ single w
   unfolding value_by
   single-none zero h0 h1 h2 h3 h5 = absurd (h0 refl)
   single-none (suc zero) h0 h1 h2 h3 h5 = absurd (h1 refl)
@@ -146,7 +149,7 @@ not_close (suc (suc (suc (suc (suc (suc n)))))) h x y = refl
 -- ---- the open groups as a stack: the numbers of the d that are open, the innermost at d − 1
 
 pub unwind : List ℕ → List ℕ → ℕ → ℕ → Read Unit
-unwind s numbers zero i = taken tt i
+unwind s numbers zero i = Ok (tt, i)
 unwind s numbers (suc d) i = and_then (group_by (16 - d) s (get_or numbers d 0) i) λ u q. unwind s numbers d q
 
 unwind-set : (s numbers : List ℕ) (k v d i : ℕ) → d ≤ k → unwind s (set numbers k v) d i ≡ unwind s numbers d i
@@ -167,7 +170,7 @@ pub opens : (s : List ℕ) (f p : ℕ) (numbers : List ℕ) → get_or numbers 0
 unfolding unwind
 opens s f p numbers e l h = record {
   so =
-      sym (ap (λ (n : ℕ). and_then (group_by 16 s n p) λ u q. taken tt q) e ∙ and_then_unit (group_by 16 s f p));
+      sym (ap (λ (n : ℕ). and_then (group_by 16 s n p) λ u q. Ok (tt, q)) e ∙ and_then_unit (group_by 16 s f p));
   few = omega arith;
   whole = l;
   inside = h;
@@ -183,10 +186,10 @@ module _ {s : List ℕ} {f p : ℕ} {numbers : List ℕ} {top i : ℕ} (o : Open
       ∙ ap (λ (n : ℕ). and_then (group_by n s (get_or numbers top 0) i) λ u q. unwind s numbers top q) room
       ∙ ap (λ (r : Read Unit). and_then r λ u q. unwind s numbers top q) (group-fields (15 - top) s (get_or numbers top 0) i)
 
-  pub ended : tag_at s i ≡ done → group_by 16 s f p ≡ refused PastEnd
+  pub ended : tag_at s i ≡ Ok None → group_by 16 s f p ≡ Err PastEnd
   ended e = innermost ∙ handed-up _ (field_end s (group_by (15 - top) s) (bounded (15 - top) s) (get_or numbers top 0) _ i (omega (arith, done_at_end s i e)))
 
-  pub tag-refused : {n : Refusal} → tag_at s i ≡ untagged n → group_by 16 s f p ≡ refused n
+  pub tag-refused : {n : Refusal} → tag_at s i ≡ Err n → group_by 16 s f p ≡ Err n
   unfolding field_in
   tag-refused e =
       let h = untagged-tag s i e in
@@ -196,7 +199,11 @@ module _ {s : List ℕ} {f p : ℕ} {numbers : List ℕ} {top i : ℕ} (o : Open
 -- a tag that was found in the innermost group
 pub record Found (s : List ℕ) (f p : ℕ) (numbers : List ℕ) (top i : ℕ) (t : Tag) (q : ℕ) : Type 0 where
   pub groups : Open s f p numbers top i
-  pub tag : tag_at s i ≡ tagged t q
+  pub tag : tag_at s i ≡ Ok (Some (t, q))
+
+-- it is what the answer says that reads it
+pub find : {s : List ℕ} {f p : ℕ} {numbers : List ℕ} {top i : ℕ} {t : Tag} {q : ℕ} {r : TagAt} → Open s f p numbers top i → r ≡ tag_at s i → r ≡ Ok (Some (t, q)) → Found s f p numbers top i t q
+find o e g = record { groups = o; tag = sym e ∙ g }
 
 module _ {s : List ℕ} {f p : ℕ} {numbers : List ℕ} {top i : ℕ} {t : Tag} {q : ℕ} (x : Found s f p numbers top i t q) where
   pub further : (i < q) × (q ≤ length s)
@@ -207,7 +214,7 @@ module _ {s : List ℕ} {f p : ℕ} {numbers : List ℕ} {top i : ℕ} {t : Tag}
   falls = omega (arith, further)
 
   -- what follows the tag, in the innermost group and then in those around it
-  after : group_by 16 s f p ≡ and_then (closes (wire_type t.wire) (choose (eqb t.field (get_or numbers top 0)) (taken tt q) (refused BadWireType)) (and_then (value_by (group_by (15 - top) s) s (wire_type t.wire) t.field q) λ v r. group_by (suc (15 - top)) s (get_or numbers top 0) r)) (λ u r. unwind s numbers top r)
+  after : group_by 16 s f p ≡ and_then (closes (wire_type t.wire) (choose (eqb t.field (get_or numbers top 0)) (Ok (tt, q)) (Err BadWireType)) (and_then (value_by (group_by (15 - top) s) s (wire_type t.wire) t.field q) λ v r. group_by (suc (15 - top)) s (get_or numbers top 0) r)) (λ u r. unwind s numbers top r)
   unfolding field_in
   after =
       let h = tagged-tag s i x.tag in
@@ -218,7 +225,7 @@ module _ {s : List ℕ} {f p : ℕ} {numbers : List ℕ} {top i : ℕ} {t : Tag}
   unfolding and_then
   own-end w g = after ∙ rw (w, g) (simp (eq-eqb t.field t.field refl))
 
-  pub closes-last : t.wire ≡ 4 → get_or numbers top 0 ≡ t.field → top ≡ 0 → group_by 16 s f p ≡ taken tt q
+  pub closes-last : t.wire ≡ 4 → get_or numbers top 0 ≡ t.field → top ≡ 0 → group_by 16 s f p ≡ Ok (tt, q)
   unfolding unwind
   closes-last w g z = own-end w g ∙ ap (λ (d : ℕ). unwind s numbers d q) z
 
@@ -232,11 +239,11 @@ module _ {s : List ℕ} {f p : ℕ} {numbers : List ℕ} {top i : ℕ} {t : Tag}
         inside = further.1;
       }
 
-  pub other-end : t.wire ≡ 4 → (get_or numbers top 0 ≡ t.field → ⊥) → group_by 16 s f p ≡ refused BadWireType
+  pub other-end : t.wire ≡ 4 → (get_or numbers top 0 ≡ t.field → ⊥) → group_by 16 s f p ≡ Err BadWireType
   unfolding and_then
   other-end w g = after ∙ rw w (simp (ne_eqb t.field (get_or numbers top 0) λ h. g (sym h)))
 
-  pub too_deep : t.wire ≡ 3 → top ≡ 15 → group_by 16 s f p ≡ refused GroupDepth
+  pub too_deep : t.wire ≡ 3 → top ≡ 15 → group_by 16 s f p ≡ Err GroupDepth
   unfolding and_then value_by group_by
   too_deep w g = after ∙ rw (w, g)
 
@@ -275,17 +282,17 @@ module _ {s : List ℕ} {f p : ℕ} {numbers : List ℕ} {top i : ℕ} {t : Tag}
         (ap (λ (x : Read Payload). and_then (and_then x λ v r. group_by (suc (15 - top)) s (get_or numbers top 0) r) (λ u r. unwind s numbers top r))
         (not_open t.wire w s (group_by (15 - top) s) (group_by 0 s) t.field 0 q ∙ ev))
 
-    pub value-refused : {n : Refusal} → value_by (group_by 0 s) s (wire_type t.wire) 0 q ≡ refused n → group_by 16 s f p ≡ refused n
+    pub value-refused : {n : Refusal} → value_by (group_by 0 s) s (wire_type t.wire) 0 q ≡ Err n → group_by 16 s f p ≡ Err n
     unfolding and_then
     value-refused ev = passing ev
 
-    behind : {v : Payload} {r : ℕ} → value_by (group_by 0 s) s (wire_type t.wire) 0 q ≡ taken v r → (q ≤ r) × (r ≤ length s)
+    behind : {v : Payload} {r : ℕ} → value_by (group_by 0 s) s (wire_type t.wire) 0 q ≡ Ok (v, r) → (q ≤ r) × (r ≤ length s)
     behind ev = reached (value_reach s (group_by 0 s) (bounded 0 s) (wire_type t.wire) 0 q further.1) ev
 
-    pub falls-behind : {v : Payload} {r : ℕ} → value_by (group_by 0 s) s (wire_type t.wire) 0 q ≡ taken v r → length s - r < length s - i
+    pub falls-behind : {v : Payload} {r : ℕ} → value_by (group_by 0 s) s (wire_type t.wire) 0 q ≡ Ok (v, r) → length s - r < length s - i
     falls-behind ev = omega (arith, further, behind ev)
 
-    pub passes : {v : Payload} {r : ℕ} → value_by (group_by 0 s) s (wire_type t.wire) 0 q ≡ taken v r → Open s f p numbers top r
+    pub passes : {v : Payload} {r : ℕ} → value_by (group_by 0 s) s (wire_type t.wire) 0 q ≡ Ok (v, r) → Open s f p numbers top r
     unfolding and_then unwind
     passes {v} {r} ev =
         let room : suc (15 - top) ≡ 16 - top = omega arith in
@@ -305,7 +312,7 @@ payload_reach s t p =
     (λ e. value_reach s (group_by 16 s) (bounded 16 s) (wire_type t.wire) t.field p (leb-true _ _ e))
     (λ e. nowhere)
 
-pub payload-outside : (s : List ℕ) (t : Tag) (p : ℕ) → length s < p → payload s t p ≡ refused Outside
+pub payload-outside : (s : List ℕ) (t : Tag) (p : ℕ) → length s < p → payload s t p ≡ Err Outside
 unfolding payload
 payload-outside s t p h = simp (lt-leb _ _ h)
 
@@ -317,6 +324,6 @@ module _ (s : List ℕ) (f w p : ℕ) (h : p ≤ length s) where
   pub payload-single : (w ≡ 3 → ⊥) → payload s (tag_by f w) p ≡ single s p w
   payload-single g = inside ∙ not_open w g s (group_by 16 s) (group_by 0 s) f 0 p
 
-  pub payload-group : w ≡ 3 → payload s (tag_by f w) p ≡ and_then (group_by 16 s f p) (λ u q. taken (payload_of 0 p (q - p)) q)
+  pub payload-group : w ≡ 3 → payload s (tag_by f w) p ≡ and_then (group_by 16 s f p) (λ u q. Ok (payload_of 0 p (q - p), q))
   unfolding value_by
   payload-group e = inside ∙ ap (λ (k : ℕ). value_by (group_by 16 s) s (wire_type k) f p) e

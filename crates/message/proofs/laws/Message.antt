@@ -1,5 +1,6 @@
 -- The laws of a message that views use: the fields from p are the field at p and the fields from the next place; a next place is behind
 -- its field's and within the bytes; a part lies within its message.
+use Rattle.std.specs.Prelude.{Ok, Err, Some, None}
 use Prim.Native.Nat.{ℕ, suc, ◌+◌, ◌-◌, ◌*◌, ◌/◌, ◌%◌, ◌^◌, ◌≤◌, ◌<◌}
 use mathlib.Core.Path.{◌≡◌, refl, sym, ap, ◌∙◌, subst}
 use mathlib.Core.List.{List}
@@ -9,10 +10,12 @@ use lib.ListN.{length, get_or}
 use lib.Dec.{eqb}
 use borrow.Author.Tests.{le-leb, eq-eqb, ne_eqb}
 use Rattle.protobuf.specs.declared.refusal.Refusal.{Refusal}
-use Rattle.protobuf.specs.Read.{Read, taken, refused}
-use Rattle.protobuf.specs.Tag.{Tag, tag_by, split, TagAt, done, tagged, untagged, tag_at}
+use Rattle.protobuf.specs.Read.{Read}
+use Rattle.protobuf.specs.declared.tag.Tag.{Tag}
+use Rattle.protobuf.specs.Tag.{tag_by, split, TagAt, tag_at}
 use Rattle.protobuf.specs.Varint.{varint}
-use Rattle.message.specs.Payload.{Payload, raw_varint, length_delimited, value_by, payload}
+use Rattle.message.specs.declared.payload.Payload.{Payload}
+use Rattle.message.specs.Payload.{raw_varint, length_delimited, value_by, payload}
 use Rattle.protobuf.specs.Stream.{Item, last, item, follow}
 use Rattle.message.specs.Message.{Field, MessageEnd, complete, cut, with_payload, with_tag, field_at, message_from}
 use Rattle.message.specs.Answers.{field_by, ShortField}
@@ -27,29 +30,29 @@ use Rattle.protobuf.proofs.laws.Stream.{Forward, unroll, Every, every}
 -- ---- one field
 
 module _ (s : List ℕ) (p : ℕ) where
-  pub complete-at : tag_at s p ≡ done → field_at s p ≡ last complete
+  pub complete-at : tag_at s p ≡ Ok None → field_at s p ≡ last complete
   unfolding field_at
   complete-at e = ap (with_tag s) e
 
-  pub cut_at : {n : Refusal} → tag_at s p ≡ untagged n → field_at s p ≡ last (cut n)
+  pub cut_at : {n : Refusal} → tag_at s p ≡ Err n → field_at s p ≡ last (cut n)
   unfolding field_at
   cut_at e = ap (with_tag s) e
 
-  pub tagged-at : {t : Tag} {q : ℕ} → tag_at s p ≡ tagged t q → field_at s p ≡ with_payload t (payload s t q)
+  pub tagged-at : {t : Tag} {q : ℕ} → tag_at s p ≡ Ok (Some (t, q)) → field_at s p ≡ with_payload t (payload s t q)
   unfolding field_at
   tagged-at e = ap (with_tag s) e
 
   -- the same by the tag's value, put together from its parts
-  pub field-by : {f w q : ℕ} {r : Read Payload} → tag_at s p ≡ tagged (tag_by f w) q → payload s (tag_by f w) q ≡ r → field_at s p ≡ with_payload (split (f * 8 + w)) r
+  pub field-by : {f w q : ℕ} {r : Read Payload} → tag_at s p ≡ Ok (Some (tag_by f w, q)) → payload s (tag_by f w) q ≡ r → field_at s p ≡ with_payload (split (f * 8 + w)) r
   field-by {f} {w} {q} {r} e g =
       let joined : tag_by f w ≡ split (f * 8 + w) = sym (split_joined f w (small-parts s p (tagged-tag s p e).1).1) in
       tagged-at e ∙ (λ i. with_payload (joined i) (g i))
 
   -- a tag of one byte
   module _ {t : ℕ} (inside : p < length s) (is : get_or s p 0 ≡ t) (field : 8 ≤ t) (short : t < 128) where
-    short-tag : tag_at s p ≡ tagged (split t) (p + 1)
+    short-tag : tag_at s p ≡ Ok (Some (split t, p + 1))
     short-tag =
-        let one : varint s p ≡ taken t (p + 1) = one_byte s p inside (omega arith) ∙ ap (λ (v : ℕ). taken v (p + 1)) is in
+        let one : varint s p ≡ Ok (t, p + 1) = one_byte s p inside (omega arith) ∙ ap (λ (v : ℕ). Ok (v, p + 1)) is in
         tag_read s p (λ e. omega arith) one field (omega arith)
 
     short-by : {r : Read Payload} → payload s (split t) (p + 1) ≡ r → field_at s p ≡ with_payload (split t) r
@@ -64,7 +67,7 @@ module _ (s : List ℕ) (p : ℕ) where
     short-length w = short-by {r = length_delimited s (p + 1)} (rw (le-leb (p + 1) (length s) (omega arith), w))
 
     -- a number or a length behind it, by the word of its varint; the field's word holds both
-    module _ {word : ℕ} (few : length s < 2 ^ 63) (below : word < 2 ^ 48) (read : varint s (p + 1) ≡ taken (word / 16) (p + 1 + word % 16)) where
+    module _ {word : ℕ} (few : length s < 2 ^ 63) (below : word < 2 ^ 48) (read : varint s (p + 1) ≡ Ok (word / 16, p + 1 + word % 16)) where
       own-tag : (128 * word + t) % 128 ≡ t
       own-tag = omega arith
 
@@ -120,15 +123,15 @@ module _ (s : List ℕ) where
   place (last e) = 0
   place (item f q) = q
 
-  read-payload : (t : Tag) (r : Read Payload) {f : Field} {q : ℕ} → with_payload t r ≡ item f q → (v : Payload) × (r ≡ taken v q)
+  read-payload : (t : Tag) (r : Read Payload) {f : Field} {q : ℕ} → with_payload t r ≡ item f q → (v : Payload) × (r ≡ Ok (v, q))
   unfolding place
-  read-payload t (taken v r) e = (v, ap (λ (n : ℕ). taken v n) (ap place e))
-  read-payload t (refused n) e = absurd (let z : ◌≡◌ {A = ℕ} 0 1 = cc in omega arith)
+  read-payload t (Ok (v, r)) e = (v, ap (λ (n : ℕ). Ok (v, n)) (ap place e))
+  read-payload t (Err n) e = absurd (let z : ◌≡◌ {A = ℕ} 0 1 = cc in omega arith)
 
   forward : (p : ℕ) (a : TagAt) {f : Field} {q : ℕ} → tag_at s p ≡ a → with_tag s a ≡ item f q → (p < q) × (q ≤ length s)
-  forward p done e g = absurd (let z : ◌≡◌ {A = ℕ} 0 1 = cc in omega arith)
-  forward p (untagged n) e g = absurd (let z : ◌≡◌ {A = ℕ} 0 1 = cc in omega arith)
-  forward p (tagged t r) e g =
+  forward p (Ok None) e g = absurd (let z : ◌≡◌ {A = ℕ} 0 1 = cc in omega arith)
+  forward p (Err n) e g = absurd (let z : ◌≡◌ {A = ℕ} 0 1 = cc in omega arith)
+  forward p (Ok (Some (t, r))) e g =
       omega (arith, reached (tag_reach s p) (tagged-tag s p e).1, reached (payload_reach s t r) (read-payload t (payload s t r) g).1)
 
   pub fields-forward : Forward (field_at s) (length s)
@@ -147,14 +150,14 @@ module _ (s : List ℕ) where
 
   payload-within : (t : Tag) (q : ℕ) (r : Read Payload) {f : Field} {k : ℕ} → payload s t q ≡ r → with_payload t r ≡ item f k → f.payload.start + f.payload.len ≤ length s
   unfolding field_or
-  payload-within t q (taken v k) {f} e g =
+  payload-within t q (Ok (v, k)) {f} e g =
       subst (λ (x : Field). x.payload.start + x.payload.len ≤ length s) (ap (field_or f) g) (part-within s t q e)
-  payload-within t q (refused n) e g = absurd (let z : ◌≡◌ {A = ℕ} 0 1 = cc in omega arith)
+  payload-within t q (Err n) e g = absurd (let z : ◌≡◌ {A = ℕ} 0 1 = cc in omega arith)
 
   tag-within : (a : TagAt) {f : Field} {k : ℕ} → with_tag s a ≡ item f k → f.payload.start + f.payload.len ≤ length s
-  tag-within done g = absurd (let z : ◌≡◌ {A = ℕ} 0 1 = cc in omega arith)
-  tag-within (untagged n) g = absurd (let z : ◌≡◌ {A = ℕ} 0 1 = cc in omega arith)
-  tag-within (tagged t q) g = payload-within t q (payload s t q) refl g
+  tag-within (Ok None) g = absurd (let z : ◌≡◌ {A = ℕ} 0 1 = cc in omega arith)
+  tag-within (Err n) g = absurd (let z : ◌≡◌ {A = ℕ} 0 1 = cc in omega arith)
+  tag-within (Ok (Some (t, q))) g = payload-within t q (payload s t q) refl g
 
   pub field-within : (p : ℕ) (f : Field) (q : ℕ) → field_at s p ≡ item f q → f.payload.start + f.payload.len ≤ length s
   unfolding field_at

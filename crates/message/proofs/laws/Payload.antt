@@ -1,4 +1,5 @@
 -- Laws of the payloads that stand outside groups: the ways on from a varint, and that a payload ends within the bytes.
+use Rattle.std.specs.Prelude.{Ok, Err}
 use Prim.Native.Nat.{ℕ, ◌+◌, ◌-◌, ◌≤◌, ◌<◌}
 use mathlib.Core.Path.{◌≡◌, ◌∙◌}
 use mathlib.Core.List.{List}
@@ -8,38 +9,37 @@ use native.Mathlib.Omega.{arith}
 use borrow.Author.Tests.{le-leb, lt-leb, leb-true}
 use Rattle.protobuf.specs.declared.refusal.Refusal.{Refusal}
 use Rattle.protobuf.specs.declared.refusal.Refusal.TheVariants.{PastEnd}
-use Rattle.protobuf.specs.Read.{taken, refused}
 use Rattle.protobuf.specs.Varint.{varint}
 use Rattle.message.specs.Payload.{payload_of, raw_varint, fixed, counted, length_delimited}
 use Rattle.protobuf.proofs.laws.Read.{goes_on, handed-up, Reach, to, nowhere, reach_and_then, reach_choose, reach_down}
 use Rattle.protobuf.proofs.laws.Varint.{varint_reach}
 
 module _ (s : List ℕ) (p : ℕ) where
-  pub raw_refused : {n : Refusal} → varint s p ≡ refused n → raw_varint s p ≡ refused n
+  pub raw_refused : {n : Refusal} → varint s p ≡ Err n → raw_varint s p ≡ Err n
   unfolding raw_varint
   raw_refused e = handed-up _ e
 
-  pub raw_taken : {v q : ℕ} → varint s p ≡ taken v q → raw_varint s p ≡ taken (payload_of v p (q - p)) q
+  pub raw_taken : {v q : ℕ} → varint s p ≡ Ok (v, q) → raw_varint s p ≡ Ok (payload_of v p (q - p), q)
   unfolding raw_varint
   raw_taken e = goes_on _ e
 
-  pub delimited_refused : {n : Refusal} → varint s p ≡ refused n → length_delimited s p ≡ refused n
+  pub delimited_refused : {n : Refusal} → varint s p ≡ Err n → length_delimited s p ≡ Err n
   unfolding length_delimited
   delimited_refused e = handed-up (counted s) e
 
-  pub delimited_past : {n q : ℕ} → varint s p ≡ taken n q → length s < q + n → length_delimited s p ≡ refused PastEnd
+  pub delimited_past : {n q : ℕ} → varint s p ≡ Ok (n, q) → length s < q + n → length_delimited s p ≡ Err PastEnd
   unfolding length_delimited counted
   delimited_past e h = goes_on (counted s) e ∙ simp (lt-leb _ _ h)
 
-  pub delimited_taken : {n q : ℕ} → varint s p ≡ taken n q → q + n ≤ length s → length_delimited s p ≡ taken (payload_of n q n) (q + n)
+  pub delimited_taken : {n q : ℕ} → varint s p ≡ Ok (n, q) → q + n ≤ length s → length_delimited s p ≡ Ok (payload_of n q n, q + n)
   unfolding length_delimited counted
   delimited_taken e h = goes_on (counted s) e ∙ simp (le-leb _ _ h)
 
-  pub fixed-past : (n : ℕ) → length s < p + n → fixed n s p ≡ refused PastEnd
+  pub fixed-past : (n : ℕ) → length s < p + n → fixed n s p ≡ Err PastEnd
   unfolding fixed
   fixed-past n h = simp (lt-leb _ _ h)
 
-  pub fixed-taken : (n : ℕ) → p + n ≤ length s → fixed n s p ≡ taken (payload_of 0 p n) (p + n)
+  pub fixed-taken : (n : ℕ) → p + n ≤ length s → fixed n s p ≡ Ok (payload_of 0 p n, p + n)
   unfolding fixed
   fixed-taken n h = simp (le-leb _ _ h)
 

@@ -2,6 +2,7 @@
 -- stand in its slice, as many as the count says. The slots that the starts leave are those that chains begin with: of a walk, and of an
 -- element's tags, references and members, by the bytes that a walk has put for it (`element-stands`). A contract that promises less breaks
 -- this.
+use Rattle.std.specs.Prelude.{Ok}
 use Prim.Native.Nat.{ℕ, ◌*◌, ◌^◌, ◌≤◌, ◌<◌}
 use mathlib.Core.Path.{◌≡◌, refl, sym, ap, ◌∙◌}
 use mathlib.Core.List.{List}
@@ -16,7 +17,7 @@ use borrow.Fn.Kinds.{Dens, ended_of}
 use borrow.Author.Tests.{le-leb}
 use Rattle.numbers.specs.Choose.{choose}
 use Rattle.protobuf.specs.Column.{Column}
-use Rattle.fields.specs.Outcome.{Outcome, kept}
+use Rattle.fields.specs.Outcome.{Outcome}
 use Rattle.wire.specs.declared.record.WireBlock.{WireBlock}
 use Rattle.block.specs.Listing.{Element}
 use Rattle.elements.specs.declared.tags.Tag.{Tag}
@@ -95,7 +96,7 @@ pub record Starts {W : Type 0} (width : ℕ) (state_at : List ℕ → W) (w : W)
   pub long : width ≤ length slot
   pub stands : state_at slot ≡ w
 
-started : {W : Type 0} (width : ℕ) (state_at : List ℕ → W) (stateWords : W → List ℕ) (over : W) (slot : List ℕ) {start : Outcome W} {w : W} {code : ℕ} {left : List ℕ} → width ≤ length slot → start ≡ kept w
+started : {W : Type 0} (width : ℕ) (state_at : List ℕ → W) (stateWords : W → List ℕ) (over : W) (slot : List ℕ) {start : Outcome W} {w : W} {code : ℕ} {left : List ℕ} → width ≤ length slot → start ≡ Ok w
     → code ≡ choose (leb width (length slot)) (code_of start) 14 → left ≡ filled slot (stateWords (started_by over start)) → (width ≤ length slot → state_at left ≡ started_by over start) → Starts width state_at w code left
 started width state_at stateWords over slot {start} long e tells next back =
     record {

@@ -1,5 +1,6 @@
 -- Chains of calls through C list right: what a slot's state has ahead over the record in a slice is what it has ahead over the record, and of an
 -- accepted block that is the listing. So of two accepted blocks the claim holds that the walk's calls ensure (`whole_in`).
+use Rattle.std.specs.Prelude.{Ok}
 use Prim.Native.Nat.{ℕ, ◌^◌, ◌≤◌, ◌<◌}
 use mathlib.Core.Path.{◌≡◌, refl, sym, ap, ◌∙◌, subst}
 use mathlib.Core.List.{List}
@@ -8,7 +9,7 @@ use lib.ListN.{length}
 use lib.IntN.{ℤ}
 use Rattle.protobuf.specs.Stream.{end}
 use Rattle.protobuf.specs.Column.{ended, Column}
-use Rattle.fields.specs.Outcome.{Outcome, kept}
+use Rattle.fields.specs.Outcome.{Outcome}
 use Rattle.wire.specs.declared.record.WireBlock.{WireBlock}
 use Rattle.lookup.specs.Lookup.{is_record_inside}
 use Rattle.lookup.proofs.laws.Scanned.{record-stands}
@@ -49,10 +50,10 @@ use Rattle.nuorpyts.specs.Chains.{Accepted-in, WalkChain, SubChains, ListsIn, Wh
 use Rattle.nuorpyts.proofs.laws.Scanned.{scan-fits, scan-read, as_scanned}
 
 -- over a record that is read
-over-read : {W A : Type 0} {x : Outcome WireBlock} {r : WireBlock} (from : WireBlock → W → Column A) (w : W) → x ≡ kept r → with_record x (λ (q : WireBlock). from q w) ≡ from r w
+over-read : {W A : Type 0} {x : Outcome WireBlock} {r : WireBlock} (from : WireBlock → W → Column A) (w : W) → x ≡ Ok r → with_record x (λ (q : WireBlock). from q w) ≡ from r w
 over-read {x = x} from w e = ap (λ (y : Outcome WireBlock). with_record y (λ (q : WireBlock). from q w)) e
 
-module _ (s rec : List ℕ) {r : WireBlock} (read : record_in rec ≡ kept r) where
+module _ (s rec : List ℕ) {r : WireBlock} (read : record_in rec ≡ Ok r) where
   walk_ends : (w : BlockElementsIter) → walk_over w ≡ true → walk_in s rec w ≡ end ended
   walk_ends walk.Ended e = over-read (elements_from s) walk.Ended read
   walk_ends (walk.Between b) e = absurd (true≢false (sym e))

@@ -1,5 +1,6 @@
 -- An element that shows one of a listing starts its own sub-walks by its bytes: `tags_begin`, `refs_begin` and `members_begin`. Of its parts
 -- those that are read stand in the buffer, so that 8 bytes hold their numbers; numbers of others are cut there, which makes no difference.
+use Rattle.std.specs.Prelude.{Ok}
 use Prim.Native.Nat.{ℕ, ◌+◌, ◌%◌, ◌^◌, ◌≤◌, ◌<◌}
 use native.Mathlib.Omega.{arith}
 use mathlib.Core.Path.{◌≡◌, refl, sym, ap, ◌∙◌}
@@ -18,7 +19,6 @@ use Rattle.protobuf.specs.declared.column.Column as state
 use Rattle.protobuf.specs.Stream.{end, mapped}
 use Rattle.protobuf.specs.Column.{cut, Column, column_from, sint64s, sums_from}
 use Rattle.fields.specs.declared.part.Part.{Part}
-use Rattle.fields.specs.Outcome.{kept}
 use Rattle.wire.specs.declared.record.WireBlock.{WireBlock}
 use Rattle.lookup.specs.Lookup.{get_at, is_record_inside}
 use Rattle.block.specs.Strings as texts
@@ -220,11 +220,11 @@ module _ (s : List ℕ) (fits : length s < 2 ^ 64) where
       as_cut : written out 0 (words (element_words p.group p.message (cut_element p.element))) ≡ stood
       as_cut = ap (written out 0) (bytes_same p.group p.message p.element).so
 
-      pub tags_begin : tags_start_in stood ≡ kept (tags_start p.element)
-      tags_begin = ap tags_start_in (sym as_cut) ∙ tags-started out room p.group p.message (cut_element p.element) (cut-held p.element) ∙ ap kept (same-tags p.element h.tags)
+      pub tags_begin : tags_start_in stood ≡ Ok (tags_start p.element)
+      tags_begin = ap tags_start_in (sym as_cut) ∙ tags-started out room p.group p.message (cut_element p.element) (cut-held p.element) ∙ ap Ok (same-tags p.element h.tags)
 
-      pub refs_begin : refs_start_in stood ≡ kept (refs_start p.element)
-      refs_begin = ap refs_start_in (sym as_cut) ∙ refs-started out room p.group p.message (cut_element p.element) (cut-held p.element) ∙ ap kept (same-refs p.element h.references)
+      pub refs_begin : refs_start_in stood ≡ Ok (refs_start p.element)
+      refs_begin = ap refs_start_in (sym as_cut) ∙ refs-started out room p.group p.message (cut_element p.element) (cut-held p.element) ∙ ap Ok (same-refs p.element h.references)
 
-      pub members_begin : members_start_in stood ≡ kept (members_start p.element)
-      members_begin = ap members_start_in (sym as_cut) ∙ members-started out room p.group p.message (cut_element p.element) (cut-held p.element) ∙ ap kept (same-members p.element h.members)
+      pub members_begin : members_start_in stood ≡ Ok (members_start p.element)
+      members_begin = ap members_start_in (sym as_cut) ∙ members-started out room p.group p.message (cut_element p.element) (cut-held p.element) ∙ ap Ok (same-members p.element h.members)

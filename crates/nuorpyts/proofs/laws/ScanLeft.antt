@@ -1,5 +1,6 @@
 -- What `nuorpyts_scan` leaves where its code is 0 is what the check's contract asks for: read off the contract of `nuorpyts_scan` itself, so
 -- that one that promises less breaks this.
+use Rattle.std.specs.Prelude.{Ok, Err}
 use Prim.Native.Nat.{ℕ, ◌+◌, ◌^◌, ◌<◌}
 use mathlib.Core.Path.{◌≡◌, refl, sym, ap, ◌∙◌}
 use mathlib.Core.Bool.{Bool, true, false}
@@ -14,7 +15,7 @@ use borrow.Fn.Kinds.{Dens, ended_of}
 use Rattle.numbers.specs.Choose.{choose}
 use Rattle.numbers.specs.Little.{written}
 use Rattle.protobuf.specs.Refusal.{never-zero}
-use Rattle.fields.specs.Outcome.{Outcome, kept, refused, each}
+use Rattle.fields.specs.Outcome.{Outcome, each}
 use Rattle.wire.specs.Scan.{Scanned, meta, scanned, after_scan}
 use Rattle.answers.specs.Words.{words}
 use Rattle.answers.specs.Codes.{code_of, answer_code, answer_after}
@@ -30,11 +31,11 @@ unfolding each
 left b out n {s} {rec} code₀ answer₀ after₀ held = by (scanned b n) (leb 72 (length out)) refl refl code₀ answer₀ after₀
   where
     by : (x : Outcome Scanned) (t : Bool) → scanned b n ≡ x → leb 72 (length out) ≡ t → 0 ≡ choose t (code_of (each meta x)) 14 → rec ≡ answer_after record_words out (each meta x) → s ≡ choose t (after_scan b n x) b → Scanned-in s rec b n
-    by (kept x) true e h code answer after =
+    by (Ok x) true e h code answer after =
         let ws = record_words x.block in
         let put : rec ≡ written out 0 (words ws) = rw h at answer in
         record { scan = x; so = e; buffer = after; numbers = ap (take 72) put ∙ take_at (words ws) (drop (0 + length (words ws)) out) 72 (words-length ws); held = held }
-    by (refused r) true e h code answer after = absurd (never-zero r (sym code))
+    by (Err r) true e h code answer after = absurd (never-zero r (sym code))
     by x false e h code answer after = absurd (omega arith)
 
 module _ (κs : Lfts 2) (a : Dens κs kinds.ps) (e : AtExit (ended_of 2 kinds.ps kinds.r) κs) where

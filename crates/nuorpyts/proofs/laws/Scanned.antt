@@ -1,5 +1,6 @@
 -- What a scan through C leaves for the other entries: the record in the slice is read back, so that strings, roles and groups are the block's
 -- own; and which refusal its code 13 is.
+use Rattle.std.specs.Prelude.{Ok, Option, Err}
 use Prim.Native.Nat.{ℕ, ◌+◌, ◌*◌, ◌^◌, ◌≤◌, ◌<◌}
 use mathlib.Core.Path.{◌≡◌, refl, sym, ap, ◌∙◌, subst}
 use mathlib.Core.List.{List}
@@ -15,11 +16,9 @@ use Rattle.protobuf.specs.declared.refusal.Refusal.{Refusal}
 use Rattle.protobuf.specs.declared.refusal.Refusal.TheVariants.{BlockTooLong, VarintCut, VarintLong, TagValue, WireType, PastEnd, GroupDepth, Granularity, SecondColumn, SecondInfo, SecondDense, Counts, NoRoom, Outside}
 use Rattle.protobuf.specs.Refusal.{number}
 use Rattle.fields.specs.declared.part.Part.{Part}
-use Rattle.fields.specs.Outcome.{Outcome, kept, onward}
+use Rattle.fields.specs.Outcome.{Outcome, onward}
 use Rattle.fields.proofs.laws.Outcome.{kept_same}
 use Rattle.wire.specs.declared.record.WireBlock.{WireBlock}
-use Rattle.lookup.specs.declared.by_number.Got.{Got}
-use Rattle.lookup.specs.declared.by_number.Got.TheVariants as got
 use Rattle.wire.specs.Scan.{Scanned, Scanned-as}
 use Rattle.lookup.specs.Lookup.{get_at, group_at, string_of, group_of}
 use Rattle.wire.proofs.laws.Scan.{Kept, scan-kept, total}
@@ -31,7 +30,7 @@ use Rattle.answers.specs.Codes.{answer_code, answer_after}
 use Rattle.answers.proofs.laws.Words.{words-length, same-written}
 use Rattle.answers.proofs.laws.Codes.{Answered}
 use Rattle.answers.proofs.laws.Record.{Held, record-back}
-use Rattle.nuorpyts.specs.Block.{Scanned-in, got_by, get_in, got_code, got_after, range_of, group_in}
+use Rattle.nuorpyts.specs.Block.{Scanned-in, get_in, got_code, got_after, group_in}
 use Rattle.nuorpyts.specs.Walks.{role_in, own_role}
 use Rattle.nuorpyts.proofs.laws.Block.{GotAnswered}
 
@@ -62,7 +61,7 @@ scan-long {b = b} {n} h =
 pub scan-fits : {s rec b : List ℕ} {n : ℕ} → Scanned-in s rec b n → length s < 2 ^ 64
 scan-fits h = omega (arith, scan-long h, h.held)
 
-pub scan-read : {s rec b : List ℕ} {n : ℕ} → length s < 2 ^ 64 → (h : Scanned-in s rec b n) → record_in rec ≡ kept h.scan.block
+pub scan-read : {s rec b : List ℕ} {n : ℕ} → length s < 2 ^ 64 → (h : Scanned-in s rec b n) → record_in rec ≡ Ok h.scan.block
 scan-read {s} {rec} {b} {n} fits h =
     let x = h.scan in
     let ws = record_words x.block in
@@ -77,34 +76,35 @@ module _ {s rec : List ℕ} (fits : length s < 2 ^ 64) {b : List ℕ} {n : ℕ} 
   as_scanned = record { scan = h.scan; so = h.so; buffer = h.buffer; meta = refl }
 
   -- by the record that is read
-  pub as_read : {r : WireBlock} → record_in rec ≡ kept r → Scanned-as s r b n
+  pub as_read : {r : WireBlock} → record_in rec ≡ Ok r → Scanned-as s r b n
   as_read e = record { scan = h.scan; so = h.so; buffer = h.buffer; meta = kept_same (sym e ∙ scan-read fits h) }
 
   own_string : (index : ℕ) → get_in s rec index ≡ string_of (take n b) index
-  own_string index = ap (λ (x : Outcome WireBlock). got_by x λ r. get_at s r index) (scan-read fits h) ∙ scanned_get as_scanned index
+  unfolding onward
+  own_string index = ap (λ (x : Outcome WireBlock). onward x λ r. get_at s r index) (scan-read fits h) ∙ scanned_get as_scanned index
 
   own-role : (role : ℕ) → role_in s rec role ≡ own_role (take n b) role
+  unfolding onward
   own-role role =
-      ap (λ (x : Got). choose (is_int32 role) x (got.Refused Outside))
-      (ap (λ (x : Outcome WireBlock). got_by x λ r. role_at s r (twos 32 role)) (scan-read fits h) ∙ by (twos 32 role))
+      ap (λ (x : Outcome (Option Part)). choose (is_int32 role) x (Err Outside))
+      (ap (λ (x : Outcome WireBlock). onward x λ r. role_at s r (twos 32 role)) (scan-read fits h) ∙ by (twos 32 role))
     where
       by : (z : ℤ) → role_at s h.scan.block z ≡ role_of (take n b) z
       by (pos k) = scanned_get as_scanned k
       by (negsuc k) = refl
 
-  own-group : (index : ℕ) → group_in s rec index ≡ range_of (group_of (take n b) index)
+  own-group : (index : ℕ) → group_in s rec index ≡ group_of (take n b) index
   unfolding onward
-  own-group index =
-      ap (λ (x : Outcome WireBlock). onward x λ r. range_of (group_at s r index)) (scan-read fits h) ∙ ap range_of (scanned-group as_scanned index)
+  own-group index = ap (λ (x : Outcome WireBlock). onward x λ r. group_at s r index) (scan-read fits h) ∙ scanned-group as_scanned index
 
 -- all clauses of an entry's contract, by the two of code and bytes: of a text x, which is a block's own where a scan left the slices
-module _ (s rec out : List ℕ) (x : Got) (own : List ℕ → Got) where
+module _ (s rec out : List ℕ) (x : Outcome (Option Part)) (own : List ℕ → Outcome (Option Part)) where
   abbrev GotClauses : ℕ → List ℕ → Type 0
   GotClauses code after =
       (code ≡ choose (leb 16 (length out)) (got_code x) 14) × ((after ≡ got_after out x) × ((b : List ℕ) (n : ℕ) → Scanned-in s rec b n → GotAnswered out code after (own (take n b))))
 
   got_clauses : ((b : List ℕ) (n : ℕ) → Scanned-in s rec b n → x ≡ own (take n b)) → {code : ℕ} {after : List ℕ} → GotAnswered out code after x → GotClauses code after
-  got_clauses same {code} {after} e = (e.0, (e.1, λ b n h. subst (λ (y : Got). GotAnswered out code after y) (same b n h) e))
+  got_clauses same {code} {after} e = (e.0, (e.1, λ b n h. subst (λ (y : Outcome (Option Part)). GotAnswered out code after y) (same b n h) e))
 
 module _ (s rec out : List ℕ) (role : ℕ) where
   abbrev pub RoleClauses : ℕ → List ℕ → Type 0
@@ -123,7 +123,7 @@ module _ (s rec out : List ℕ) (index : ℕ) where
   abbrev pub GroupClauses : ℕ → List ℕ → Type 0
   GroupClauses code after =
       let x = group_in s rec index in
-      (code ≡ answer_code 2 out x) × ((after ≡ answer_after range_words out x) × ((b : List ℕ) (n : ℕ) → Scanned-in s rec b n → Answered 2 range_words out code after (range_of (group_of (take n b) index))))
+      (code ≡ answer_code 2 out x) × ((after ≡ answer_after range_words out x) × ((b : List ℕ) (n : ℕ) → Scanned-in s rec b n → Answered 2 range_words out code after (group_of (take n b) index)))
 
   pub group_clauses : length s < 2 ^ 64 → {code : ℕ} {after : List ℕ} → Answered 2 range_words out code after (group_in s rec index) → GroupClauses code after
   group_clauses fits {code} {after} e = (e.0, (e.1, λ b n h. subst (λ (x : Outcome Part). Answered 2 range_words out code after x) (own-group fits h index) e))

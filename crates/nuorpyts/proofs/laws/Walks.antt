@@ -1,4 +1,5 @@
--- Laws of a role's text and of positions through the record in a slice.
+-- Laws of positions through the record in a slice.
+use Rattle.std.specs.Prelude.{Ok, Err, Option}
 use Prim.Native.Nat.{ℕ, ◌^◌, ◌<◌}
 use mathlib.Core.Path.{◌≡◌, refl, ap, ◌∙◌}
 use mathlib.Core.List.{List, [], ◌∷◌}
@@ -13,26 +14,15 @@ use Rattle.numbers.proofs.laws.Machine.{returned}
 use Rattle.protobuf.specs.declared.refusal.Refusal.{Refusal}
 use Rattle.protobuf.specs.declared.refusal.Refusal.TheVariants.{Outside}
 use Rattle.wire.specs.declared.record.WireBlock.{WireBlock}
-use Rattle.lookup.specs.declared.by_number.Got.{Got}
-use Rattle.lookup.specs.declared.by_number.Got.TheVariants as got
-use Rattle.fields.specs.Outcome.{Outcome, kept, refused, onward}
+use Rattle.fields.specs.Outcome.{Outcome, onward}
+use Rattle.fields.specs.declared.part.Part.{Part}
 use Rattle.elements.specs.Members.{role_at}
 use Rattle.answers.specs.Words.{signed_word}
 use Rattle.answers.specs.Codes.{answer_after}
 use Rattle.answers.specs.Record.{record_in}
 use Rattle.answers.proofs.laws.Words.{put-short}
 use Rattle.answers.proofs.laws.Codes.{Answered, too_short}
-use Rattle.nuorpyts.specs.Block.{got_by}
 use Rattle.nuorpyts.specs.Walks.{role_in, nano_words, nano_in}
-
--- ---- a role's number
-
-module _ (s rec : List ℕ) (role : ℕ) where
-  pub role-wide : is_int32 role ≡ false → role_in s rec role ≡ got.Refused Outside
-  role-wide h = rw h
-
-  pub role-narrow : {x : Got} → is_int32 role ≡ true → got_by (record_in rec) (λ r. role_at s r (twos 32 role)) ≡ x → role_in s rec role ≡ x
-  role-narrow h e = rw h e
 
 -- ---- positions
 
@@ -41,19 +31,9 @@ module _ (rec : List ℕ) (lat lon : ℕ) where
   unfolding onward
   nano_short out h = (too_short 16 out _ 14 h, untouched (record_in rec))
     where
-      untouched : (x : Outcome WireBlock) → out ≡ answer_after (λ ws. ws) out (onward x λ r. kept (nano_words r lat lon))
-      untouched (kept r) = put-short out (nano_words r lat lon) h
-      untouched (refused n) = refl
-
-  pub nano_no-record : {n : Refusal} → record_in rec ≡ refused n → nano_in rec lat lon ≡ refused n
-  unfolding onward
-  nano_no-record e = rw e
-
-  pub nano_with-record : {r : WireBlock} {north east : ℕ} → record_in rec ≡ kept r → north ≡ signed_word (nanodegrees_of r.latoffset r.granularity (twos 64 lat))
-      → east ≡ signed_word (nanodegrees_of r.lonoffset r.granularity (twos 64 lon))
-      → nano_in rec lat lon ≡ kept (north ∷ east ∷ [])
-  unfolding onward
-  nano_with-record e n k = rw (e, n, k)
+      untouched : (x : Outcome WireBlock) → out ≡ answer_after (λ ws. ws) out (onward x λ r. Ok (nano_words r lat lon))
+      untouched (Ok r) = put-short out (nano_words r lat lon) h
+      untouched (Err n) = refl
 
 -- the bits of a position whose raw number was read of bits, as the three calls give them
 pub position-bits : (offset granularity : ℤ) (n : ℕ) {raw position : ℤ} {word : ℕ} → mag raw < 2 ^ 63 → raw ≡ twos 64 n → mag position < 2 ^ 63

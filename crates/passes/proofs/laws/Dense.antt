@@ -1,4 +1,5 @@
 -- A dense message, by what the views of it and of its DenseInfo hand out.
+use Rattle.std.specs.Prelude.{Ok, Err}
 use Prim.Native.Nat.{ℕ, ◌^◌, ◌<◌}
 use mathlib.Core.Path.{◌≡◌, refl, sym, ap, ◌∙◌}
 use mathlib.Core.List.{List, [], ◌∷◌}
@@ -6,7 +7,7 @@ use lib.ListN.{length}
 use Rattle.protobuf.specs.declared.refusal.Refusal.{Refusal}
 use Rattle.views.specs.declared.dense_nodes.WireDenseNodes.{WireDenseNodes}
 use Rattle.views.specs.declared.dense_info.WireDenseInfo.{WireDenseInfo}
-use Rattle.fields.specs.Outcome.{Outcome, kept, refused, onward, each}
+use Rattle.fields.specs.Outcome.{Outcome, onward, each}
 use Rattle.fields.specs.View.{Slots, view, view_in}
 use Rattle.fields.specs.Schema.{dense_nodes, dense_info}
 use Rattle.views.specs.DenseNodes.{dense_nodes_at}
@@ -35,11 +36,11 @@ info_columns_of t w =
     ∷ [])
 
 module _ (s : List ℕ) where
-  pub dense-refused : {n : Refusal} → each (dense_nodes_at 0) (view_in dense_nodes s 0 (length s)) ≡ refused n → check_dense s ≡ refused n
+  pub dense-refused : {n : Refusal} → each (dense_nodes_at 0) (view_in dense_nodes s 0 (length s)) ≡ Err n → check_dense s ≡ Err n
   unfolding check_dense
   dense-refused e = on-refused _ (not-viewed dense_nodes_at dense_nodes s e)
 
-  module _ {v : WireDenseNodes} (e : each (dense_nodes_at 0) (view_in dense_nodes s 0 (length s)) ≡ kept v) where
+  module _ {v : WireDenseNodes} (e : each (dense_nodes_at 0) (view_in dense_nodes s 0 (length s)) ≡ Ok v) where
     abbrev slots : Slots
     slots = slots_in dense_nodes_at dense_nodes s e
 
@@ -57,10 +58,10 @@ module _ (s : List ℕ) where
           on-kept _ (viewed dense_nodes_at dense_nodes s e)
           ∙ ap behind (sym (is ∙ part_bytes dense_nodes_at dense_nodes s e (λ x. x.info) 5 (λ slots. refl)))
 
-      pub info-refused : {n : Refusal} → each (dense_info_at 0) (view_in dense_info t 0 (length t)) ≡ refused n → check_dense s ≡ refused n
+      pub info-refused : {n : Refusal} → each (dense_info_at 0) (view_in dense_info t 0 (length t)) ≡ Err n → check_dense s ≡ Err n
       info-refused g = then ∙ on-refused _ (not-viewed dense_info_at dense_info t g)
 
-      module _ (small : length s < 2 ^ 64) (small-info : length t < 2 ^ 64) {w : WireDenseInfo} (g : each (dense_info_at 0) (view_in dense_info t 0 (length t)) ≡ kept w) where
+      module _ (small : length s < 2 ^ 64) (small-info : length t < 2 ^ 64) {w : WireDenseInfo} (g : each (dense_info_at 0) (view_in dense_info t 0 (length t)) ≡ Ok w) where
         handed : check_dense s ≡ onward (rows_of s v) λ u. info_columns_of t w
         unfolding all
         handed =
@@ -82,7 +83,7 @@ module _ (s : List ℕ) where
             ∷ sym (part-column dense_info_at dense_info t g small-info (λ x. x.visible) 6 (λ slots. refl)) j
             ∷ [])
 
-        pub rows-refused : {n : Refusal} → rows_of s v ≡ refused n → check_dense s ≡ refused n
+        pub rows-refused : {n : Refusal} → rows_of s v ≡ Err n → check_dense s ≡ Err n
         rows-refused h = handed ∙ on-refused _ h
 
         pub rows-passed : rows_of s v ≡ passed → check_dense s ≡ info_columns_of t w

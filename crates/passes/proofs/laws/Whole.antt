@@ -1,4 +1,5 @@
 -- A message that is the whole of the bytes lent: a reader at the start of a part that its view hands out has the column of its slot before it.
+use Rattle.std.specs.Prelude.{Ok, Err}
 use Prim.Native.Nat.{ℕ, ◌^◌, ◌<◌}
 use mathlib.Core.Path.{◌≡◌, sym, ap, ◌∙◌}
 use mathlib.Core.List.{List}
@@ -6,7 +7,7 @@ use lib.ListN.{length}
 use Rattle.protobuf.specs.declared.refusal.Refusal.{Refusal}
 use Rattle.protobuf.specs.Column.{column}
 use Rattle.fields.specs.declared.part.Part.{Part}
-use Rattle.fields.specs.Outcome.{Outcome, kept, refused, onward, each}
+use Rattle.fields.specs.Outcome.{Outcome, onward, each}
 use Rattle.fields.specs.Part.{moved, bytes_of}
 use Rattle.fields.specs.View.{Schema, Slots, view, view_in}
 use Rattle.fields.proofs.laws.Whole.{slots_in, viewed, part_bytes, part-inside}
@@ -17,7 +18,7 @@ use Rattle.columns.specs.InStep.{ahead, start_of}
 use Rattle.columns.proofs.laws.InStep.{ahead-start}
 
 -- what a view `at` a place hands out of a message
-module _ {A : Type 0} (at : ℕ → Slots → A) (schema : Schema) (s : List ℕ) {v : A} (e : each (at 0) (view_in schema s 0 (length s)) ≡ kept v) (small : length s < 2 ^ 64) where
+module _ {A : Type 0} (at : ℕ → Slots → A) (schema : Schema) (s : List ℕ) {v : A} (e : each (at 0) (view_in schema s 0 (length s)) ≡ Ok v) (small : length s < 2 ^ 64) where
   abbrev slots : Slots
   slots = slots_in at schema s e
 
@@ -37,7 +38,7 @@ module _ {A : Type 0} (at : ℕ → Slots → A) (schema : Schema) (s : List ℕ
         ∙ λ j. onward (check_common (sym (part_bytes at schema s e info 4 i) j) (sym (part-column keys 2 k) j) (sym (part-column vals 3 w) j)) λ u. own s slots
 
     module _ {x : Outcome Unit} (g : x ≡ shared) where
-      pub common-refused : {n : Refusal} → x ≡ refused n → element_by schema own s ≡ refused n
+      pub common-refused : {n : Refusal} → x ≡ Err n → element_by schema own s ≡ Err n
       common-refused h = common ∙ on-refused _ (sym g ∙ h)
 
       pub common-passed : x ≡ passed → element_by schema own s ≡ own s slots
@@ -48,6 +49,6 @@ module _ {A : Type 0} (at : ℕ → Slots → A) (schema : Schema) (s : List ℕ
     pub common-whole : {x : Outcome Unit} → x ≡ check_common (bytes_of s (info v)) (ahead s (start_of (keys v))) (ahead s (start_of (vals v))) → element_by schema (λ t slots. passed) s ≡ x
     common-whole g = common (λ t slots. passed) info keys vals i k w ∙ then-passed _ ∙ sym g
 
-pub element-refused : (schema : Schema) (own : List ℕ → Slots → Outcome Unit) (s : List ℕ) {n : Refusal} → view schema s ≡ refused n → element_by schema own s ≡ refused n
+pub element-refused : (schema : Schema) (own : List ℕ → Slots → Outcome Unit) (s : List ℕ) {n : Refusal} → view schema s ≡ Err n → element_by schema own s ≡ Err n
 unfolding element_by
 element-refused schema own s e = on-refused _ e

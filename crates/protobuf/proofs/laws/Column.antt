@@ -1,5 +1,6 @@
 -- The laws of a column that readers use: the values from p are the value at p and the values from the next place; what one step of a
 -- reader finds.
+use Rattle.std.specs.Prelude.{Ok, Err}
 use Prim.Native.Nat.{ℕ, ◌+◌, ◌-◌, ◌*◌, ◌/◌, ◌%◌, ◌≤◌, ◌<◌}
 use mathlib.Core.Path.{◌≡◌, refl, sym, ap, ◌∙◌, subst}
 use mathlib.Core.List.{List}
@@ -10,7 +11,7 @@ use lib.Seq.{get_or-take, take_all, length-take-le}
 use lib.Dec.{eqb, leb}
 use borrow.Author.Tests.{le-leb, lt-leb, leb-true, leb-false, eq-eqb, ne_eqb}
 use Rattle.protobuf.specs.declared.refusal.Refusal.TheVariants.{Outside}
-use Rattle.protobuf.specs.Read.{Read, taken, refused}
+use Rattle.protobuf.specs.Read.{Read}
 use Rattle.numbers.specs.Choose.{choose}
 use Rattle.protobuf.specs.Varint.{varint}
 use Rattle.protobuf.specs.Stream.{Item, last, item, follow}
@@ -82,15 +83,15 @@ items-same : {v w q r : ℕ} → ◌≡◌ {A = Item ℕ ColumnEnd} (item v q) (
 items-same e = (cc, cc)
 
 -- a value that was found is the varint before the column's end
-from-varint : (s : List ℕ) (p : ℕ) (r : Read ℕ) {v q : ℕ} → varint s p ≡ r → or_cut r ≡ item v q → varint s p ≡ taken v q
-from-varint s p (taken v q) e g = e ∙ cc
-from-varint s p (refused n) e g = absurd (let z : ◌≡◌ {A = ℕ} 0 1 = cc in omega arith)
+from-varint : (s : List ℕ) (p : ℕ) (r : Read ℕ) {v q : ℕ} → varint s p ≡ r → or_cut r ≡ item v q → varint s p ≡ Ok (v, q)
+from-varint s p (Ok (v, q)) e g = e ∙ cc
+from-varint s p (Err n) e g = absurd (let z : ◌≡◌ {A = ℕ} 0 1 = cc in omega arith)
 
-step_varint : (s : List ℕ) (p e : ℕ) {v q : ℕ} → step_at s p e ≡ item v q → varint (take e s) p ≡ taken v q
+step_varint : (s : List ℕ) (p e : ℕ) {v q : ℕ} → step_at s p e ≡ item v q → varint (take e s) p ≡ Ok (v, q)
 unfolding step_at value_at
 step_varint s p e {v} {q} g = by (leb p e) (leb e (length s)) (eqb p (length (take e s))) g
   where
-    by : (b c d : Bool) → choose b (choose c (choose d (last ended) (or_cut (varint (take e s) p))) (last (cut Outside))) (last (cut Outside)) ≡ item v q → varint (take e s) p ≡ taken v q
+    by : (b c d : Bool) → choose b (choose c (choose d (last ended) (or_cut (varint (take e s) p))) (last (cut Outside))) (last (cut Outside)) ≡ item v q → varint (take e s) p ≡ Ok (v, q)
     by true true false h = from-varint (take e s) p (varint (take e s) p) refl h
     by true true true h = absurd (let z : ◌≡◌ {A = ℕ} 0 1 = cc in omega arith)
     by true false d h = absurd (let z : ◌≡◌ {A = ℕ} 0 1 = cc in omega arith)
@@ -106,7 +107,7 @@ short-some {p = p} v n h e =
       serves = λ w g. let same = items-same (sym e ∙ g) in omega (arith, same.0, same.1);
     }
 
-pub short-by : (s : List ℕ) (p e : ℕ) → p < e → e ≤ length s → {v q : ℕ} → varint (take e s) p ≡ taken v q → q - p < 16 → Short (step_at s p e) p (16 * v + (q - p))
+pub short-by : (s : List ℕ) (p e : ℕ) → p < e → e ≤ length s → {v q : ℕ} → varint (take e s) p ≡ Ok (v, q) → q - p < 16 → Short (step_at s p e) p (16 * v + (q - p))
 short-by s p e h k {v} {q} read few =
     let place : q ≡ p + (q - p) = omega (arith, reached (varint_reach (take e s) p) read) in
     short-some v (q - p) few (step_by_lem s p e (omega arith) k (λ eq. omega arith) read ∙ ap (λ (n : ℕ). item v n) place)
@@ -137,9 +138,9 @@ short-long s p e h k b =
     let far = longer_reach (take e s) p (omega (arith, length-take-le e s k)) (omega (arith, same)) in
     short_none (λ v g. omega (arith, reached far (step_varint s p e g)))
 
-pub short-varint : (s : List ℕ) (p : ℕ) {word : ℕ} → Short (step_at s p (length s)) p word → (word ≡ 0 → ⊥) → varint s p ≡ taken (word / 16) (p + word % 16)
+pub short-varint : (s : List ℕ) (p : ℕ) {word : ℕ} → Short (step_at s p (length s)) p word → (word ≡ 0 → ⊥) → varint s p ≡ Ok (word / 16, p + word % 16)
 short-varint s p {word} short h =
-    subst (λ (l : List ℕ). varint l p ≡ taken (word / 16) (p + word % 16)) (take_all (length s) s (omega arith)) (step_varint s p (length s) (short.says h))
+    subst (λ (l : List ℕ). varint l p ≡ Ok (word / 16, p + word % 16)) (take_all (length s) s (omega arith)) (step_varint s p (length s) (short.says h))
 
 -- ---- the stream
 

@@ -1,5 +1,6 @@
 -- Reading in a part of the bytes: from a later start it is the same reading at shifted places. So a column's values are those of its own
 -- bytes, wherever they stand.
+use Rattle.std.specs.Prelude.{Ok, Err}
 use Prim.Native.Nat.{ℕ, zero, suc, ◌+◌, ◌-◌, ◌≤◌}
 use mathlib.Core.Path.{◌≡◌, refl, sym}
 use mathlib.Core.List.{List}
@@ -10,7 +11,7 @@ use lib.ListN.{length, drop, length-drop}
 use lib.Seq.{get_or-drop}
 use lib.Dec.{ltb, leb, eqb}
 use borrow.Author.Tests.{lt-ltb, le-ltb, le-leb, lt-leb, ltb-true, ltb-false, leb-true, leb-false, eqb-true, eqb-false, eq-eqb, ne_eqb}
-use Rattle.protobuf.specs.Read.{Read, taken, refused, and_then}
+use Rattle.protobuf.specs.Read.{Read, and_then}
 use Rattle.numbers.specs.Choose.{choose}
 use Rattle.protobuf.specs.Varint.{digits, varint}
 use Rattle.protobuf.specs.Stream.{Item}
@@ -20,17 +21,17 @@ use Rattle.protobuf.proofs.laws.Stream.{later, shifted}
 
 -- the same reading, a places further on
 abbrev pub ahead : {A : Type 0} → ℕ → Read A → Read A
-ahead a (taken x q) = taken x (a + q)
-ahead a (refused n) = refused n
+ahead a (Ok (x, q)) = Ok (x, a + q)
+ahead a (Err n) = Err n
 
 ahead-choose : {A : Type 0} (a : ℕ) (b : Bool) (x y : Read A) → ahead a (choose b x y) ≡ choose b (ahead a x) (ahead a y)
 ahead-choose a true x y = refl
 ahead-choose a false x y = refl
 
-ahead-and_then : {A B : Type 0} (a : ℕ) (r : Read A) (f : A → B) → ahead a (and_then r λ x q. taken (f x) q) ≡ and_then (ahead a r) (λ x q. taken (f x) q)
+ahead-and_then : {A B : Type 0} (a : ℕ) (r : Read A) (f : A → B) → ahead a (and_then r λ x q. Ok (f x, q)) ≡ and_then (ahead a r) (λ x q. Ok (f x, q))
 unfolding and_then
-ahead-and_then a (taken x q) f = refl
-ahead-and_then a (refused n) f = refl
+ahead-and_then a (Ok (x, q)) f = refl
+ahead-and_then a (Err n) f = refl
 
 -- a test at a place behind a start, and at the place counted from there
 shifted-ltb : (a i n : ℕ) → ltb (a + i) n ≡ ltb i (n - a)
@@ -73,8 +74,8 @@ later-choose a true x y = refl
 later-choose a false x y = refl
 
 later-or_cut : (a : ℕ) (r : Read ℕ) → later a (or_cut r) ≡ or_cut (ahead a r)
-later-or_cut a (taken v q) = refl
-later-or_cut a (refused n) = refl
+later-or_cut a (Ok (v, q)) = refl
+later-or_cut a (Err n) = refl
 
 module _ (s : List ℕ) (a : ℕ) (h : a ≤ length s) where
   value_shift : (i : ℕ) → value_at s (a + i) ≡ later a (value_at (drop a s) i)

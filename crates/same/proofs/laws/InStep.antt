@@ -1,9 +1,10 @@
 -- Two streams in step: what was handed out so far is the same, and what is left decides.
+use Rattle.std.specs.Prelude.{Ok}
 use mathlib.Core.Path.{◌≡◌, refl, sym, ap, ◌∙◌}
 use mathlib.Core.Bool.{Bool, true, false}
 use Rattle.protobuf.specs.Stream.{more}
 use Rattle.protobuf.specs.Column.{Column}
-use Rattle.fields.specs.Outcome.{Outcome, kept}
+use Rattle.fields.specs.Outcome.{Outcome}
 use Rattle.walk.specs.Same.{and_same, same_stream}
 
 pub record InStep {A B : Type 0} (same : A → B → Outcome Bool) (c₀ : Column A) (d₀ : Column B) (c : Column A) (d : Column B) : Type 0 where
@@ -31,8 +32,8 @@ module _ {A B : Type 0} {same : A → B → Outcome Bool} {c₀ c : Column A} {d
     unfolding same_stream
     both_hand = both_say e g
 
-    pub two-differ : same a b ≡ kept false → kept false ≡ same_stream same c₀ d₀
+    pub two-differ : same a b ≡ Ok false → Ok false ≡ same_stream same c₀ d₀
     two-differ is = ap (λ (o : Outcome Bool). and_same o (same_stream same rest others)) (sym is) ∙ both_hand
 
-    pub two-same : same a b ≡ kept true → InStep same c₀ d₀ rest others
+    pub two-same : same a b ≡ Ok true → InStep same c₀ d₀ rest others
     two-same is = record { so = sym both_hand ∙ ap (λ (o : Outcome Bool). and_same o (same_stream same rest others)) is }

@@ -1,17 +1,20 @@
 -- Two members: their ids by the numbers of each, and their roles before their ids.
+use Rattle.std.specs.Prelude.{Ok, Err, Option, Some, None, is_some}
 use Prim.Native.Nat.{ℕ, ◌^◌, ◌<◌}
 use mathlib.Core.Path.{◌≡◌, refl, sym, ◌∙◌}
 use mathlib.Core.List.{List}
-use mathlib.Core.Option.{Option}
-use mathlib.Core.Bool.{Bool, true, false}
+use mathlib.Core.Option as math
+use mathlib.Core.Bool.{Bool, true, false, not}
+use native.Mathlib.Omega.{arith}
+use Rattle.protobuf.specs.declared.refusal.Refusal.{Refusal}
 use lib.Dec.{eqb}
 use lib.IntN.{ℤ, pos}
 use lib.Signed.{mag}
 use mir.Syntax.{w32, w64}
 use mir.Val.{hbits, to_z, of_z}
 use Rattle.numbers.proofs.laws.Machine.{returned}
-use Rattle.fields.specs.Outcome.{Outcome, kept, refused, onward}
-use Rattle.lookup.specs.declared.by_number.Got.{Got}
+use Rattle.fields.specs.Outcome.{Outcome, onward}
+use Rattle.fields.specs.declared.part.Part.{Part}
 use Rattle.block.specs.Strings.{Text}
 use Rattle.columns.specs.Inside.{also}
 use Rattle.elements.specs.declared.members.MemberId.{MemberId}
@@ -58,15 +61,29 @@ keys-same x y e g = (λ j. same_keys (e j) (g j)) ∙ by-keys x y
 -- ---- roles, and then ids
 
 -- by what was found of the two
-pub roles-found : (s t : List ℕ) {g h x y known other : Got} → g ≡ x → h ≡ y → g ≡ known → h ≡ other → same_roles (text_of s known) (text_of t other) ≡ same_roles (text_of s x) (text_of t y)
+pub roles-found : (s t : List ℕ) {g h x y known other : Outcome (Option Part)} → g ≡ x → h ≡ y → g ≡ known → h ≡ other → same_roles (text_of s known) (text_of t other) ≡ same_roles (text_of s x) (text_of t y)
 roles-found s t e f k l = λ i. same_roles (text_of s ((sym k ∙ e) i)) (text_of t ((sym l ∙ f) i))
 
-pub roles-first : (x y : Outcome (Option Text)) (same : Bool) → and_same (same_roles x y) (kept same) ≡ onward x λ t. onward y λ u. kept (also (same_role t u) same)
+-- the second's number, whatever the first has
+pub second_refused : (s t : List ℕ) (o : Option Part) {n : Refusal} → Err n ≡ same_roles (text_of s (Ok o)) (text_of t (Err n))
 unfolding onward
-roles-first (refused n) y same = refl
-roles-first (kept t) (refused n) same = refl
-roles-first (kept t) (kept u) same = by (same_role t u)
+second_refused s t None = refl
+second_refused s t (Some p) = refl
+
+-- where the first has none it is the same exactly where the second has none
+pub none_beside : (s t : List ℕ) (o : Option Part) (b : Bool) → is_some o ≡ not b → Ok b ≡ same_roles (text_of s (Ok None)) (text_of t (Ok o))
+unfolding onward
+none_beside s t None true e = refl
+none_beside s t None false e = absurd (let z : ◌≡◌ {A = ℕ} 0 1 = cc in omega arith)
+none_beside s t (Some p) true e = absurd (let z : ◌≡◌ {A = ℕ} 0 1 = cc in omega arith)
+none_beside s t (Some p) false e = refl
+
+pub roles-first : (x y : Outcome (math.Option Text)) (same : Bool) → and_same (same_roles x y) (Ok same) ≡ onward x λ t. onward y λ u. Ok (also (same_role t u) same)
+unfolding onward
+roles-first (Err n) y same = refl
+roles-first (Ok t) (Err n) same = refl
+roles-first (Ok t) (Ok u) same = by (same_role t u)
   where
-    by : (b : Bool) → and_same (kept b) (kept same) ≡ kept (also b same)
+    by : (b : Bool) → and_same (Ok b) (Ok same) ≡ Ok (also b same)
     by true = refl
     by false = refl

@@ -1,4 +1,5 @@
 -- A text that a lookup hands out stands inside its buffer.
+use Rattle.std.specs.Prelude.{Some, None, Ok, Err}
 use Prim.Native.Nat.{ℕ, ◌+◌, ◌*◌}
 use mathlib.Core.Path.{◌≡◌, refl, subst}
 use mathlib.Core.List.{List}
@@ -12,7 +13,6 @@ use Rattle.numbers.specs.Choose.{choose}
 use Rattle.fields.specs.declared.part.Part.{Part}
 use Rattle.fields.specs.Part.{is_inside, bytes_of}
 use Rattle.wire.specs.declared.record.WireBlock.{WireBlock}
-use Rattle.lookup.specs.declared.by_number.Got.TheVariants as got
 use Rattle.lookup.specs.Lookup.{entry_at, get_at}
 use Rattle.elements.specs.Members.{role_at}
 use Rattle.same.specs.Tags.{Stands}
@@ -21,7 +21,7 @@ inside-stands : (s : List ℕ) (start len : ℕ) → is_inside s (record { prese
 unfolding bytes_of
 inside-stands s start len h = simp h
 
-pub text_stands : (s : List ℕ) (r : WireBlock) (index : ℕ) {p : Part} → get_at s r index ≡ got.Text p → Stands s p
+pub text_stands : (s : List ℕ) (r : WireBlock) (index : ℕ) {p : Part} → get_at s r index ≡ Ok (Some p) → Stands s p
 unfolding get_at
 text_stands s r index e =
     by (choose (ltb index r.strings) (leb (r.stringtable + 8 * index + 8) (length s)) false) (is_inside s this) refl e
@@ -29,11 +29,11 @@ text_stands s r index e =
     this : Part
     this = entry_at s (r.stringtable + 8 * index)
 
-    by : (a b : Bool) → is_inside s this ≡ b → {p : Part} → choose a (choose b (got.Text this) (got.Refused Outside)) got.None ≡ got.Text p → Stands s p
+    by : (a b : Bool) → is_inside s this ≡ b → {p : Part} → choose a (choose b (Ok (Some this)) (Err Outside)) (Ok None) ≡ Ok (Some p) → Stands s p
     by true true h {p} g = let same : this ≡ p = cc in subst (λ (x : Part). Stands s x) same (inside-stands s _ _ h)
     by true false h g = absurd (let z : ◌≡◌ {A = ℕ} 0 1 = cc in omega arith)
     by false b h g = absurd (let z : ◌≡◌ {A = ℕ} 0 1 = cc in omega arith)
 
-pub role-stands : (s : List ℕ) (r : WireBlock) (role : ℤ) {p : Part} → role_at s r role ≡ got.Text p → Stands s p
+pub role-stands : (s : List ℕ) (r : WireBlock) (role : ℤ) {p : Part} → role_at s r role ≡ Ok (Some p) → Stands s p
 role-stands s r (pos n) e = text_stands s r n e
 role-stands s r (negsuc n) e = absurd (let z : ◌≡◌ {A = ℕ} 0 1 = cc in omega arith)

@@ -1,4 +1,5 @@
 -- The tags that a step hands out have texts that stand inside: a lookup gave them.
+use Rattle.std.specs.Prelude.{Option, Some, None, Ok, Err}
 use Prim.Native.Nat.{ℕ}
 use mathlib.Core.Path.{◌≡◌, refl, subst}
 use mathlib.Core.List.{List}
@@ -8,9 +9,9 @@ use Rattle.protobuf.specs.declared.refusal.Refusal.TheVariants.{Outside}
 use Rattle.numbers.specs.Choose.{choose}
 use Rattle.protobuf.specs.Stream.{end, more}
 use Rattle.protobuf.specs.Column.{cut, Column}
+use Rattle.fields.specs.declared.part.Part.{Part}
+use Rattle.fields.specs.Outcome.{Outcome}
 use Rattle.wire.specs.declared.record.WireBlock.{WireBlock}
-use Rattle.lookup.specs.declared.by_number.Got.{Got}
-use Rattle.lookup.specs.declared.by_number.Got.TheVariants as got
 use Rattle.lookup.specs.Lookup.{get_at, is_record_inside}
 use Rattle.elements.specs.declared.tags.RawTag.{RawTag}
 use Rattle.elements.specs.declared.tags.Tag.{Tag}
@@ -26,16 +27,16 @@ module _ (s : List ℕ) (r : WireBlock) where
   found_stand (end e) g = absurd (let z : ◌≡◌ {A = ℕ} 0 1 = cc in omega arith)
   found_stand (more p others) g = by (get_at s r p.key) (get_at s r p.value) refl refl g
     where
-      by : (k v : Got) → get_at s r p.key ≡ k → get_at s r p.value ≡ v → {t : Tag} {rest : Column Tag} → tag_then p k v (found_tags (get_at s r) others) ≡ more t rest → TagStands s t
-      by (got.Text k) (got.Text v) x y {t} g =
+      by : (k v : Outcome (Option Part)) → get_at s r p.key ≡ k → get_at s r p.value ≡ v → {t : Tag} {rest : Column Tag} → tag_then p k v (found_tags (get_at s r) others) ≡ more t rest → TagStands s t
+      by (Ok (Some k)) (Ok (Some v)) x y {t} g =
           let this : record { raw = p; key = k; value = v } ≡ t = cc in
           subst (λ (x : Tag). TagStands s x) this (record { key = text_stands s r p.key x; value = text_stands s r p.value y })
-      by (got.Refused n) v x y g = absurd (let z : ◌≡◌ {A = ℕ} 0 1 = cc in omega arith)
-      by got.None (got.Refused n) x y g = absurd (let z : ◌≡◌ {A = ℕ} 0 1 = cc in omega arith)
-      by (got.Text k) (got.Refused n) x y g = absurd (let z : ◌≡◌ {A = ℕ} 0 1 = cc in omega arith)
-      by got.None got.None x y g = absurd (let z : ◌≡◌ {A = ℕ} 0 1 = cc in omega arith)
-      by got.None (got.Text v) x y g = absurd (let z : ◌≡◌ {A = ℕ} 0 1 = cc in omega arith)
-      by (got.Text k) got.None x y g = absurd (let z : ◌≡◌ {A = ℕ} 0 1 = cc in omega arith)
+      by (Err n) v x y g = absurd (let z : ◌≡◌ {A = ℕ} 0 1 = cc in omega arith)
+      by (Ok None) (Err n) x y g = absurd (let z : ◌≡◌ {A = ℕ} 0 1 = cc in omega arith)
+      by (Ok (Some k)) (Err n) x y g = absurd (let z : ◌≡◌ {A = ℕ} 0 1 = cc in omega arith)
+      by (Ok None) (Ok None) x y g = absurd (let z : ◌≡◌ {A = ℕ} 0 1 = cc in omega arith)
+      by (Ok None) (Ok (Some v)) x y g = absurd (let z : ◌≡◌ {A = ℕ} 0 1 = cc in omega arith)
+      by (Ok (Some k)) (Ok None) x y g = absurd (let z : ◌≡◌ {A = ℕ} 0 1 = cc in omega arith)
 
   -- where the record is outside nothing is handed out
   tested_stand : (b : Bool) (w : TagIter) {t : Tag} {rest : Column Tag} → choose b (found_tags (get_at s r) (raw_tags_from s w)) (end (cut Outside)) ≡ more t rest → TagStands s t

@@ -1,15 +1,17 @@
 -- Two walks in step: what two steps say, by how it compares as if both walks ended behind it; and a walk hands out an element only where
 -- its record is inside.
+use Rattle.std.specs.Prelude.{Ok, Err}
 use Prim.Native.Nat.{ℕ}
 use mathlib.Core.Path.{◌≡◌, refl, sym}
 use mathlib.Core.List.{List, []}
 use mathlib.Core.Bool.{Bool, true, false}
 use native.Mathlib.Omega.{arith}
+use Rattle.protobuf.specs.declared.refusal.Refusal.{Refusal}
 use Rattle.protobuf.specs.declared.refusal.Refusal.TheVariants.{Outside}
 use Rattle.numbers.specs.Choose.{choose}
 use Rattle.protobuf.specs.Stream.{end, more}
 use Rattle.protobuf.specs.Column.{cut, Column}
-use Rattle.fields.specs.Outcome.{Outcome, kept, refused}
+use Rattle.fields.specs.Outcome.{Outcome}
 use Rattle.fields.specs.declared.part.Part.{Part}
 use Rattle.wire.specs.declared.record.WireBlock.{WireBlock}
 use Rattle.lookup.specs.Lookup.{is_record_inside}
@@ -22,9 +24,6 @@ use Rattle.walk.specs.declared.block_elements.Said.TheVariants as said
 use Rattle.walk.specs.State.{state_inside}
 use Rattle.walk.specs.Walk.{Found, elements_by, tested_from, elements_from, element_said}
 use Rattle.walk.specs.Same.{and_same, same_stream}
-use Rattle.same.specs.declared.compared.Compared.{Compared}
-use Rattle.same.specs.declared.compared.Compared.TheVariants as compared
-use Rattle.same.specs.Compared.{compared_of}
 use Rattle.same.specs.Heads.{found_by}
 use Rattle.same.specs.Walks.{said_then, element_turn, same_said, SaidInside}
 use Rattle.same.proofs.laws.Turns.{Says, hands, is-over, is_cut, Silent, at-end, at-number}
@@ -71,22 +70,20 @@ element_silent (said.Refused n) h = at-number
 
 -- ---- two steps
 
-others-on : (o others : Outcome Bool) → and_same o (kept true) ≡ kept true → and_same o others ≡ others
-others-on (kept true) others e = refl
-others-on (kept false) others e = absurd (let z : ◌≡◌ {A = ℕ} 0 1 = cc in omega arith)
-others-on (refused n) others e = absurd (let z : ◌≡◌ {A = ℕ} 0 1 = cc in omega arith)
+others-on : (o others : Outcome Bool) → and_same o (Ok true) ≡ Ok true → and_same o others ≡ others
+others-on (Ok true) others e = refl
+others-on (Ok false) others e = absurd (let z : ◌≡◌ {A = ℕ} 0 1 = cc in omega arith)
+others-on (Err n) others e = absurd (let z : ◌≡◌ {A = ℕ} 0 1 = cc in omega arith)
 
-others_off : (o others : Outcome Bool) (r : Compared) → (r ≡ compared.Same → ⊥) → compared_of r ≡ and_same o (kept true) → compared_of r ≡ and_same o others
-others_off (kept true) others compared.Same h e = absurd (h refl)
-others_off (kept true) others compared.Differ h e = absurd (let z : ◌≡◌ {A = ℕ} 0 1 = cc in omega arith)
-others_off (kept true) others (compared.Refused n) h e = absurd (let z : ◌≡◌ {A = ℕ} 0 1 = cc in omega arith)
-others_off (kept false) others r h e = e
-others_off (refused n) others r h e = e
+others_off : (o others : Outcome Bool) {r : Outcome Bool} → (r ≡ Ok true → ⊥) → r ≡ and_same o (Ok true) → r ≡ and_same o others
+others_off (Ok true) others h e = absurd (h e)
+others_off (Ok false) others h e = e
+others_off (Err n) others h e = e
 
-and-no-more : (o : Outcome Bool) → o ≡ and_same o (kept true)
-and-no-more (kept true) = refl
-and-no-more (kept false) = refl
-and-no-more (refused n) = refl
+and-no-more : (o : Outcome Bool) → o ≡ and_same o (Ok true)
+and-no-more (Ok true) = refl
+and-no-more (Ok false) = refl
+and-no-more (Err n) = refl
 
 module _ (same : Found → Found → Outcome Bool) (s t : List ℕ) where
   -- once it is known what they say
@@ -99,19 +96,25 @@ module _ (same : Found → Found → Outcome Bool) (s t : List ℕ) where
   two_said g h m n e f = and-no-more _
 
   -- a difference or a number is told, whatever is behind
-  pub said-stops : (x y : Said) (c d : Column Found) (r : Compared) → (r ≡ compared.Same → ⊥) → compared_of r ≡ same_said same s x t y → compared_of r ≡ same_stream same (said_then s x c) (said_then t y d)
+  pub said-stops : (x y : Said) (c d : Column Found) {r : Outcome Bool} → (r ≡ Ok true → ⊥) → r ≡ same_said same s x t y → r ≡ same_stream same (said_then s x c) (said_then t y d)
   unfolding same_stream
-  said-stops (said.Refused n) y c d r h e = e
-  said-stops said.Ended (said.Refused n) c d r h e = e
-  said-stops said.Ended said.Ended c d r h e = e
-  said-stops said.Ended (said.Element g m f) c d r h e = e
-  said-stops (said.Element g m f) (said.Refused n) c d r h e = e
-  said-stops (said.Element g m f) said.Ended c d r h e = e
-  said-stops (said.Element g m f) (said.Element g' m' f') c d r h e =
-      others_off (same (found_by s g m f) (found_by t g' m' f')) (same_stream same c d) r h e
+  said-stops (said.Refused n) y c d h e = e
+  said-stops said.Ended (said.Refused n) c d h e = e
+  said-stops said.Ended said.Ended c d h e = e
+  said-stops said.Ended (said.Element g m f) c d h e = e
+  said-stops (said.Element g m f) (said.Refused n) c d h e = e
+  said-stops (said.Element g m f) said.Ended c d h e = e
+  said-stops (said.Element g m f) (said.Element g' m' f') c d h e =
+      others_off (same (found_by s g m f) (found_by t g' m' f')) (same_stream same c d) h e
+
+  pub said-refused : (x y : Said) (c d : Column Found) {n : Refusal} → Err n ≡ same_said same s x t y → Err n ≡ same_stream same (said_then s x c) (said_then t y d)
+  said-refused x y c d e = said-stops x y c d (λ g. let z : ◌≡◌ {A = ℕ} 0 1 = cc in omega arith) e
+
+  pub said-differs : (x y : Said) (c d : Column Found) → Ok false ≡ same_said same s x t y → Ok false ≡ same_stream same (said_then s x c) (said_then t y d)
+  said-differs x y c d e = said-stops x y c d (λ g. let z : ◌≡◌ {A = ℕ} 0 1 = cc in omega arith) e
 
   -- the same with no element: both have ended
-  pub said-ends : (x y : Said) (c d : Column Found) → ((group : ℕ) (message : Part) (element : Element) → x ≡ said.Element group message element → ⊥) → same_said same s x t y ≡ kept true → kept true ≡ same_stream same (said_then s x c) (said_then t y d)
+  pub said-ends : (x y : Said) (c d : Column Found) → ((group : ℕ) (message : Part) (element : Element) → x ≡ said.Element group message element → ⊥) → same_said same s x t y ≡ Ok true → Ok true ≡ same_stream same (said_then s x c) (said_then t y d)
   unfolding same_stream
   said-ends (said.Element g m f) y c d h e = absurd (h g m f refl)
   said-ends (said.Refused n) y c d h e = sym e
@@ -120,7 +123,7 @@ module _ (same : Found → Found → Outcome Bool) (s t : List ℕ) where
   said-ends said.Ended (said.Element g m f) c d h e = sym e
 
   -- the same with an element: what is behind decides
-  pub said-on : (x y : Said) (c d : Column Found) {g : ℕ} {m : Part} {f : Element} → x ≡ said.Element g m f → same_said same s x t y ≡ kept true → same_stream same (said_then s x c) (said_then t y d) ≡ same_stream same c d
+  pub said-on : (x y : Said) (c d : Column Found) {g : ℕ} {m : Part} {f : Element} → x ≡ said.Element g m f → same_said same s x t y ≡ Ok true → same_stream same (said_then s x c) (said_then t y d) ≡ same_stream same c d
   unfolding same_stream
   said-on (said.Refused n) y c d k e = absurd (let z : ◌≡◌ {A = ℕ} 0 1 = cc in omega arith)
   said-on said.Ended y c d k e = absurd (let z : ◌≡◌ {A = ℕ} 0 1 = cc in omega arith)

@@ -1,5 +1,6 @@
 -- What `put_element` wrote starts the element's own sub-walks: `refs-started`, `tags-started`, `members-started`. They speak of bytes that
 -- begin with the element; those of an element in a batch do (`element_in_batch`).
+use Rattle.std.specs.Prelude.{Ok}
 use Prim.Native.Nat.{ℕ, ◌+◌, ◌-◌, ◌*◌, ◌^◌, ◌≤◌, ◌<◌}
 use native.Mathlib.Omega.{arith}
 use mathlib.Core.Path.{◌≡◌, refl, sym, ap, ◌∙◌}
@@ -14,7 +15,6 @@ use Rattle.numbers.specs.Little.{number_at, written}
 use Rattle.numbers.proofs.laws.Little.{written-length}
 use Rattle.numbers.proofs.laws.Choose.{drop-take}
 use Rattle.fields.specs.declared.part.Part.{Part}
-use Rattle.fields.specs.Outcome.{kept}
 use Rattle.columns.specs.InStep.{start_of}
 use Rattle.elements.specs.declared.references.WayRefIter.TheVariants as refs
 use Rattle.elements.specs.declared.tags.TagIter.TheVariants as tags
@@ -100,7 +100,7 @@ module _ (s : List ℕ) (long : 208 ≤ length s) (group : ℕ) (message : Part)
   kind-there : (e : Element) {kind : ℕ} → kind_word e ≡ kind → kind < 2 ^ 64 → kind_at (bytes e) ≡ kind
   kind-there e g k = number-there s (element_words group message e) (fits e) 0 0 refl (omega arith) g k
 
-  pub refs-started : (e : Element) → ElementHeld e → refs_start_in (bytes e) ≡ kept (refs_start e)
+  pub refs-started : (e : Element) → ElementHeld e → refs_start_in (bytes e) ≡ Ok (refs_start e)
   refs-started (element.DenseNode d) held =
       let e = element.DenseNode d in
       let kind = kind-there e refl (lit< tt) in
@@ -114,7 +114,7 @@ module _ (s : List ℕ) (long : 208 ≤ length s) (group : ℕ) (message : Part)
       let ws = element_words group message e in
       let kind = kind-there e refl (lit< tt) in
       let part = part-there s ws (fits e) 14 v.refs (lit< tt) refl refl refl held.1.1 in
-      refs-of-way (bytes e) (all_there e) refl kind part.whole ∙ ap (λ (p : Part). kept (refs.Refs (record { column = start_of p; sum = pos 0 }))) part.is
+      refs-of-way (bytes e) (all_there e) refl kind part.whole ∙ ap (λ (p : Part). Ok (refs.Refs (record { column = start_of p; sum = pos 0 }))) part.is
   refs-started (element.Relation v) held =
       let e = element.Relation v in
       let kind = kind-there e refl (lit< tt) in
@@ -122,17 +122,17 @@ module _ (s : List ℕ) (long : 208 ≤ length s) (group : ℕ) (message : Part)
 
   -- keys and vals at their places
   columns-started : (e : Element) (i j : ℕ) (keys vals : Part) → PartThere s (element_words group message e) (fits e) (8 * i) keys → PartThere s (element_words group message e) (fits e) (8 * j) vals
-      → columns_start_in (bytes e) (8 * i) (8 * j) ≡ kept (keys_and_vals keys vals)
+      → columns_start_in (bytes e) (8 * i) (8 * j) ≡ Ok (keys_and_vals keys vals)
   columns-started e i j keys vals a b =
-      keys-and-vals (bytes e) (8 * i) (8 * j) a.whole b.whole ∙ (λ k. kept (keys_and_vals (a.is k) (b.is k)))
+      keys-and-vals (bytes e) (8 * i) (8 * j) a.whole b.whole ∙ (λ k. Ok (keys_and_vals (a.is k) (b.is k)))
 
-  pub tags-started : (e : Element) → ElementHeld e → tags_start_in (bytes e) ≡ kept (tags_start e)
+  pub tags-started : (e : Element) → ElementHeld e → tags_start_in (bytes e) ≡ Ok (tags_start e)
   tags-started (element.DenseNode d) held =
       let e = element.DenseNode d in
       let ws = element_words group message e in
       let at = number-there s ws (fits e) 7 56 refl (omega arith) refl held.0 in
       let end = number-there s ws (fits e) 8 64 refl (omega arith) refl held.1 in
-      tags-of-dense (bytes e) (all_there e) refl (kind-there e refl (lit< tt)) ∙ (λ k. kept (tags.KeysVals (record { at = at k; end = end k })))
+      tags-of-dense (bytes e) (all_there e) refl (kind-there e refl (lit< tt)) ∙ (λ k. Ok (tags.KeysVals (record { at = at k; end = end k })))
   tags-started (element.Node v) held =
       let e = element.Node v in
       let ws = element_words group message e in
@@ -152,7 +152,7 @@ module _ (s : List ℕ) (long : 208 ≤ length s) (group : ℕ) (message : Part)
       tags-of-others (bytes e) (all_there e) refl (λ z. omega (arith, kind, z)) (λ z. omega (arith, kind, z)) (omega (arith, kind))
       ∙ columns-started e 5 8 v.keys v.vals (part-there s ws (fits e) 5 v.keys (lit< tt) refl refl refl held.0) (part-there s ws (fits e) 8 v.vals (lit< tt) refl refl refl held.1.0)
 
-  pub members-started : (e : Element) → ElementHeld e → members_start_in (bytes e) ≡ kept (members_start e)
+  pub members-started : (e : Element) → ElementHeld e → members_start_in (bytes e) ≡ Ok (members_start e)
   members-started (element.DenseNode d) held =
       let e = element.DenseNode d in
       let kind = kind-there e refl (lit< tt) in
@@ -174,7 +174,7 @@ module _ (s : List ℕ) (long : 208 ≤ length s) (group : ℕ) (message : Part)
       let types = part-there s ws (fits e) 20 v.types (lit< tt) refl refl refl held.1.1.1.1 in
       members-of-relation (bytes e) (all_there e) refl kind (rw (roles.whole, memids.whole) types.whole)
       ∙ (λ k.
-      kept
+      Ok
       (members.Members
       (record {
         roles = start_of (roles.is k);

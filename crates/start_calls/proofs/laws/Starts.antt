@@ -1,4 +1,5 @@
 -- Laws of the states that an element's bytes start at: by the tests on those bytes, and what is left in the slot.
+use Rattle.std.specs.Prelude.{Ok, Err}
 use Prim.Native.Nat.{ℕ, ◌*◌, ◌≤◌, ◌<◌}
 use native.Mathlib.Omega.{arith}
 use mathlib.Core.Path.{◌≡◌, refl, sym, ap, ◌∙◌}
@@ -11,7 +12,7 @@ use borrow.Author.Tests.{le-leb, lt-leb, eq-eqb, ne_eqb}
 use Rattle.numbers.specs.Choose.{choose}
 use Rattle.numbers.specs.Little.{number_at}
 use Rattle.protobuf.specs.declared.refusal.Refusal.TheVariants.{Outside}
-use Rattle.fields.specs.Outcome.{Outcome, kept, refused}
+use Rattle.fields.specs.Outcome.{Outcome}
 use Rattle.columns.specs.InStep.{start_of}
 use Rattle.elements.specs.declared.references.WayRefIter.{WayRefIter}
 use Rattle.elements.specs.declared.references.WayRefIter.TheVariants as refs
@@ -30,10 +31,10 @@ use Rattle.calls.specs.Slots.{column_at}
 use Rattle.start_calls.specs.Starts.{part_at, refs_start_in, columns_start_in, tags_start_in, members_start_in, started_by, Started}
 
 module _ {W : Type 0} (over : W) {start : Outcome W} where
-  pub starts-kept : {w state : W} → start ≡ kept w → state ≡ w → Started over start 0 state
+  pub starts-kept : {w state : W} → start ≡ Ok w → state ≡ w → Started over start 0 state
   starts-kept e g = record { tells-code = sym (ap code_of e); stands = g ∙ sym (ap (started_by over) e) }
 
-  pub starts-refused : start ≡ refused Outside → Started over start 14 over
+  pub starts-refused : start ≡ Err Outside → Started over start 14 over
   starts-refused e = record { tells-code = sym (ap code_of e); stands = sym (ap (started_by over) e) }
 
   pub starts_as : {other : Outcome W} {code : ℕ} {state : W} → start ≡ other → Started over other code state → Started over start code state
@@ -42,13 +43,13 @@ module _ {W : Type 0} (over : W) {start : Outcome W} where
 -- ---- keys and vals
 
 module _ (s : List ℕ) (keys vals : ℕ) where
-  pub no_keys : leb (number_at 8 s keys) 1 ≡ false → columns_start_in s keys vals ≡ refused Outside
+  pub no_keys : leb (number_at 8 s keys) 1 ≡ false → columns_start_in s keys vals ≡ Err Outside
   no_keys e = rw e
 
-  pub no-vals : leb (number_at 8 s keys) 1 ≡ true → leb (number_at 8 s vals) 1 ≡ false → columns_start_in s keys vals ≡ refused Outside
+  pub no-vals : leb (number_at 8 s keys) 1 ≡ true → leb (number_at 8 s vals) 1 ≡ false → columns_start_in s keys vals ≡ Err Outside
   no-vals e g = rw (e, g)
 
-  pub keys-and-vals : leb (number_at 8 s keys) 1 ≡ true → leb (number_at 8 s vals) 1 ≡ true → columns_start_in s keys vals ≡ kept (keys_and_vals (part_at s keys) (part_at s vals))
+  pub keys-and-vals : leb (number_at 8 s keys) 1 ≡ true → leb (number_at 8 s vals) 1 ≡ true → columns_start_in s keys vals ≡ Ok (keys_and_vals (part_at s keys) (part_at s vals))
   keys-and-vals e g = rw (e, g)
 
 -- three tests, one inside the other
@@ -68,36 +69,36 @@ not-all false b c x y e = refl
 
 module _ (s : List ℕ) where
   module _ (h : length s < 208) where
-    pub refs-short : refs_start_in s ≡ refused Outside
+    pub refs-short : refs_start_in s ≡ Err Outside
     unfolding refs_start_in
     refs-short = rw (lt-leb 208 (length s) h)
 
-    pub tags-short : tags_start_in s ≡ refused Outside
+    pub tags-short : tags_start_in s ≡ Err Outside
     unfolding tags_start_in
     tags-short = rw (lt-leb 208 (length s) h)
 
-    pub members-short : members_start_in s ≡ refused Outside
+    pub members-short : members_start_in s ≡ Err Outside
     unfolding members_start_in
     members-short = rw (lt-leb 208 (length s) h)
 
   module _ (h : 208 ≤ length s) {kind : ℕ} (e : kind ≡ number_at 8 s 0) where
-    pub refs-of-way : kind ≡ 2 → leb (number_at 8 s 112) 1 ≡ true → refs_start_in s ≡ kept (refs.Refs (record { column = start_of (part_at s 112); sum = pos 0 }))
+    pub refs-of-way : kind ≡ 2 → leb (number_at 8 s 112) 1 ≡ true → refs_start_in s ≡ Ok (refs.Refs (record { column = start_of (part_at s 112); sum = pos 0 }))
     unfolding refs_start_in
     refs-of-way k g = rw (le-leb 208 (length s) h, ← e, eq-eqb kind 2 k, g)
 
-    pub way_without : kind ≡ 2 → leb (number_at 8 s 112) 1 ≡ false → refs_start_in s ≡ refused Outside
+    pub way_without : kind ≡ 2 → leb (number_at 8 s 112) 1 ≡ false → refs_start_in s ≡ Err Outside
     unfolding refs_start_in
     way_without k g = rw (le-leb 208 (length s) h, ← e, eq-eqb kind 2 k, g)
 
-    pub refs-of-none : (kind ≡ 2 → ⊥) → 3 < kind → refs_start_in s ≡ refused Outside
+    pub refs-of-none : (kind ≡ 2 → ⊥) → 3 < kind → refs_start_in s ≡ Err Outside
     unfolding refs_start_in
     refs-of-none k l = rw (le-leb 208 (length s) h, ← e, ne_eqb kind 2 k, lt-leb kind 3 l)
 
-    pub no-refs : (kind ≡ 2 → ⊥) → kind ≤ 3 → refs_start_in s ≡ kept refs.Ended
+    pub no-refs : (kind ≡ 2 → ⊥) → kind ≤ 3 → refs_start_in s ≡ Ok refs.Ended
     unfolding refs_start_in
     no-refs k l = rw (le-leb 208 (length s) h, ← e, ne_eqb kind 2 k, le-leb kind 3 l)
 
-    pub tags-of-dense : kind ≡ 0 → tags_start_in s ≡ kept (tags.KeysVals (column_at s 56))
+    pub tags-of-dense : kind ≡ 0 → tags_start_in s ≡ Ok (tags.KeysVals (column_at s 56))
     unfolding tags_start_in
     tags-of-dense k = rw (le-leb 208 (length s) h, ← e, eq-eqb kind 0 k)
 
@@ -105,7 +106,7 @@ module _ (s : List ℕ) where
     unfolding tags_start_in
     tags-of-node j k = rw (le-leb 208 (length s) h, ← e, ne_eqb kind 0 j, eq-eqb kind 1 k)
 
-    pub tags-of-none : (kind ≡ 0 → ⊥) → (kind ≡ 1 → ⊥) → 3 < kind → tags_start_in s ≡ refused Outside
+    pub tags-of-none : (kind ≡ 0 → ⊥) → (kind ≡ 1 → ⊥) → 3 < kind → tags_start_in s ≡ Err Outside
     unfolding tags_start_in
     tags-of-none j k l = rw (le-leb 208 (length s) h, ← e, ne_eqb kind 0 j, ne_eqb kind 1 k, lt-leb kind 3 l)
 
@@ -131,21 +132,21 @@ module _ (s : List ℕ) where
     abbrev types : Bool
     types = leb (number_at 8 s 160) 1
 
-    relation-by : kind ≡ 3 → members_start_in s ≡ choose roles (choose memids (choose types (kept three_columns) (refused Outside)) (refused Outside)) (refused Outside)
+    relation-by : kind ≡ 3 → members_start_in s ≡ choose roles (choose memids (choose types (Ok three_columns) (Err Outside)) (Err Outside)) (Err Outside)
     unfolding members_start_in
     relation-by k = rw (le-leb 208 (length s) h, ← e, eq-eqb kind 3 k)
 
-    pub members-of-relation : kind ≡ 3 → choose roles (choose memids types false) false ≡ true → members_start_in s ≡ kept three_columns
-    members-of-relation k g = relation-by k ∙ all_three roles memids types (kept three_columns) (refused Outside) g
+    pub members-of-relation : kind ≡ 3 → choose roles (choose memids types false) false ≡ true → members_start_in s ≡ Ok three_columns
+    members-of-relation k g = relation-by k ∙ all_three roles memids types (Ok three_columns) (Err Outside) g
 
-    pub relation_without : kind ≡ 3 → choose roles (choose memids types false) false ≡ false → members_start_in s ≡ refused Outside
-    relation_without k g = relation-by k ∙ not-all roles memids types (kept three_columns) (refused Outside) g
+    pub relation_without : kind ≡ 3 → choose roles (choose memids types false) false ≡ false → members_start_in s ≡ Err Outside
+    relation_without k g = relation-by k ∙ not-all roles memids types (Ok three_columns) (Err Outside) g
 
-    pub members-of-none : (kind ≡ 3 → ⊥) → 3 < kind → members_start_in s ≡ refused Outside
+    pub members-of-none : (kind ≡ 3 → ⊥) → 3 < kind → members_start_in s ≡ Err Outside
     unfolding members_start_in
     members-of-none k l = rw (le-leb 208 (length s) h, ← e, ne_eqb kind 3 k, lt-leb kind 3 l)
 
-    pub no-members : (kind ≡ 3 → ⊥) → kind ≤ 3 → members_start_in s ≡ kept members.Ended
+    pub no-members : (kind ≡ 3 → ⊥) → kind ≤ 3 → members_start_in s ≡ Ok members.Ended
     unfolding members_start_in
     no-members k l = rw (le-leb 208 (length s) h, ← e, ne_eqb kind 3 k, le-leb kind 3 l)
 

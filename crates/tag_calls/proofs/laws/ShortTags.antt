@@ -1,5 +1,6 @@
 -- Laws of tags that go by a short way: the words of a key and of a value tell the next pair, and what was found of its texts is what a lookup
 -- gives.
+use Rattle.std.specs.Prelude.{Ok, Some}
 use Prim.Native.Nat.{ℕ, ◌+◌, ◌*◌, ◌/◌, ◌%◌, ◌^◌, ◌≤◌}
 use native.Mathlib.Omega.{arith}
 use mathlib.Core.Path.{◌≡◌, refl, sym, ap, ◌∙◌, subst}
@@ -14,14 +15,11 @@ use Rattle.protobuf.specs.Short.{Short}
 use Rattle.wire.specs.declared.record.WireBlock.{WireBlock}
 use Rattle.lookup.specs.Lookup.{entry_at, is_record_inside}
 use Rattle.lookup.proofs.laws.Lookup.{get_text, record-inside}
-use Rattle.columns.specs.declared.told.Told.TheVariants as told
 use Rattle.columns.specs.declared.zip.TagColumns.{TagColumns}
-use Rattle.columns.specs.declared.zip.TagStep.{TagStep}
-use Rattle.columns.specs.declared.keys_vals.DenseTag.TheVariants as tag
 use Rattle.columns.specs.KeysVals.{value_of}
 use Rattle.columns.proofs.laws.Inside.{also-true}
 use Rattle.columns.proofs.laws.KeysVals.{tag-of-key}
-use Rattle.columns.proofs.laws.Zip.{typed, zipped}
+use Rattle.columns.proofs.laws.Zip.{mapped-more, zipped-more}
 use Rattle.elements.specs.declared.tags.TagIter.{TagIter}
 use Rattle.elements.specs.declared.tags.TagIter.TheVariants as iter
 use Rattle.elements.specs.declared.tags.RawTagStep.TheVariants as raw
@@ -60,11 +58,12 @@ module _ (s : List ℕ) (b : WireBlock) (h : is_record_inside s b ≡ true) wher
       → ItemPut tag_item (tags_from s b) (iter.Columns c) out at 0 (iter.Columns (record { keys = behind_word c.keys k; vals = behind_word c.vals v })) after
   columns-put c {k} {v} some_key some-value short-key short-value t =
       let next : TagColumns = record { keys = behind_word c.keys k; vals = behind_word c.vals v } in
-      let step : TagStep = record { told = told.Value; key = k / 16 % 2 ^ 32; value = v / 16 % 2 ^ 32; next = next } in
-      let said = (zipped (typed (λ (n : ℕ). n % 2 ^ 32) (word_tells s c.keys some_key short-key) refl) (typed (λ (n : ℕ). n % 2 ^ 32) (word_tells s c.vals some-value short-value) refl) refl).so in
+      let pair = Ok (Some ((k / 16 % 2 ^ 32, v / 16 % 2 ^ 32), next)) in
+      let low : ℕ → ℕ = λ n. n % 2 ^ 32 in
+      let said = sym (zipped-more (mapped-more low (word_tells s c.keys some_key short-key) refl) (mapped-more low (word_tells s c.vals some-value short-value) refl)) in
       let here = also-true (word_stands s c.keys some_key short-key) (word_stands s c.vals some-value short-value) in
       let behind = also-true (word_inside s c.keys some_key short-key) (word_inside s c.vals some-value short-value) in
-      found-put t (iter.Columns c) (iter.Columns next) refl (pair-told s c step here said behind refl)
+      found-put t (iter.Columns c) (iter.Columns next) refl (pair-told s c {r = pair} {known = pair} here said behind refl)
 
   -- a dense node's pairs, by a word and the word behind it
   pub pair_put : (c : Column) {k v : ℕ} {out : List ℕ} {at : ℕ} {after : List ℕ} → 16 ≤ k → (v ≡ 0 → ⊥) → Short (step_at s c.at c.end) c.at k → Short (step_at s (c.at + k % 16) c.end) (c.at + k % 16) v
@@ -73,7 +72,7 @@ module _ (s : List ℕ) (b : WireBlock) (h : is_record_inside s b ≡ true) wher
   pair_put c {k} {v} some_key some-value short-key short-value t =
       let key : k / 16 ≡ 0 → ⊥ = λ z. omega (arith, z) in
       let next = behind_word (behind_word c k) v in
-      let first = sym (word_tells s c (λ z. omega (arith, z)) short-key).so in
-      let second = sym (word_tells s (behind_word c k) some-value short-value).so in
+      let first = word_tells s c (λ z. omega (arith, z)) short-key in
+      let second = word_tells s (behind_word c k) some-value short-value in
       let said = sym (tag-of-key key first ∙ ap (value_of (k / 16)) second) in
-      found-put t (iter.KeysVals c) (iter.KeysVals next) refl (dense-told s c {r = tag.Pair (k / 16) (v / 16) next} {known = tag.Pair (k / 16) (v / 16) next} said refl)
+      found-put t (iter.KeysVals c) (iter.KeysVals next) refl (dense-told s c {r = Ok (Some (k / 16, v / 16), next)} {known = Ok (Some (k / 16, v / 16), next)} said refl)

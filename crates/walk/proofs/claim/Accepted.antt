@@ -1,12 +1,13 @@
 -- What acceptance gives of a message, in the terms that the listing reads it by: its slots are those of its view, and its columns are read
 -- whole. Of a node, a way or a relation: keys and vals have one count, and what is its own passes.
+use Rattle.std.specs.Prelude.{Ok}
 use Prim.Native.Nat.{ℕ}
 use mathlib.Core.Path.{◌≡◌, sym, ap, ◌∙◌, subst}
 use mathlib.Core.List.{List, [], ◌∷◌}
 use lib.IntN.{ℤ, pos}
 use Rattle.protobuf.specs.Column.{Column, sums_from}
 use Rattle.protobuf.specs.Stream.{mapped}
-use Rattle.fields.specs.Outcome.{Outcome, kept}
+use Rattle.fields.specs.Outcome.{Outcome}
 use Rattle.fields.specs.Part.{bytes_in}
 use Rattle.fields.specs.Schema.{info, dense_nodes, dense_info}
 use Rattle.fields.specs.View.{Schema, Slots, empty, view}
@@ -22,14 +23,14 @@ use Rattle.walk.proofs.claim.Whole.{Whole, Ends, Three, whole-mapped, whole-sums
 use Rattle.walk.proofs.claim.Infos.{AllEnd}
 
 -- a view that was kept has the slots that the listing reads
-pub slots_kept : (schema : Schema) (t : List ℕ) {slots : Slots} → view schema t ≡ kept slots → slots ≡ slots_of schema t
+pub slots_kept : (schema : Schema) (t : List ℕ) {slots : Slots} → view schema t ≡ Ok slots → slots ≡ slots_of schema t
 slots_kept schema t e = ap (kept_or empty) (sym e)
 
 -- an accepted element's message, by its slots
 pub record Accepted (schema : Schema) (own : List ℕ → Slots → Outcome Unit) (t : List ℕ) (slots : Slots) : Type 0 where
-  pub viewed : view schema t ≡ kept slots
+  pub viewed : view schema t ≡ Ok slots
   pub infos : Slots
-  pub info : view info (bytes_in t (slots 4).part) ≡ kept infos
+  pub info : view info (bytes_in t (slots 4).part) ≡ Ok infos
   pub pairs : ℕ
   pub keys : Whole pairs (column_in t slots 2)
   pub vals : Whole pairs (column_in t slots 3)
@@ -82,13 +83,13 @@ abbrev pub info_bytes : List ℕ → Slots → List ℕ
 info_bytes t slots = bytes_in t (slots 5).part
 
 pub record AcceptedDense (t : List ℕ) (slots : Slots) : Type 0 where
-  pub viewed : view dense_nodes t ≡ kept slots
-  pub info : view dense_info (info_bytes t slots) ≡ kept (slots_of dense_info (info_bytes t slots))
+  pub viewed : view dense_nodes t ≡ Ok slots
+  pub info : view dense_info (info_bytes t slots) ≡ Ok (slots_of dense_info (info_bytes t slots))
   pub infos : AllEnd (infos_of (info_bytes t slots))
   pub count : ℕ
   pub rows : Three count (column_in t slots 1) (column_in t slots 8) (column_in t slots 9)
   pub tags : List (List Pair)
-  pub pairs : dense_pairs count (column_in t slots 10) ≡ kept tags
+  pub pairs : dense_pairs count (column_in t slots 10) ≡ Ok tags
 
 pub accepted-dense : (t : List ℕ) → check_dense t ≡ passed → AcceptedDense t (slots_of dense_nodes t)
 unfolding check_dense
@@ -104,7 +105,7 @@ accepted-dense t e =
     subst (AcceptedDense t) (slots_kept dense_nodes t message.is)
     (record {
       viewed = message.is;
-      info = info.is ∙ ap kept same;
+      info = info.is ∙ ap Ok same;
       infos = infos-end (info_bytes t slots) (subst (λ (x : Slots). Each (λ (k : ℕ). read_whole (column_in (info_bytes t slots) x k) ≡ passed) (1 ∷ 2 ∷ 3 ∷ 4 ∷ 5 ∷ 6 ∷ [])) same columns);
       count = rows.value;
       rows = whole-three (column_in t slots 1) (column_in t slots 8) (column_in t slots 9) rows.is;

@@ -1,5 +1,6 @@
 -- The groups of an accepted block one after the other, on what a scan left: the table names them in the block's order, at places where the buffer
 -- has the block's own bytes, so that a walk at its start hands out what is made of each of them in turn.
+use Rattle.std.specs.Prelude.{Ok}
 use Prim.Native.Nat.{ℕ, suc, ◌+◌, ◌≤◌, ◌-◌}
 use mathlib.Core.Path.{◌≡◌, sym, ap, ◌∙◌, subst}
 use mathlib.Core.List.{List, [], ◌∷◌, ◌++◌, map}
@@ -13,10 +14,9 @@ use Rattle.protobuf.specs.Column.{Column}
 use Rattle.fields.specs.declared.part.Part.{Part}
 use Rattle.fields.specs.Part.{part_by, bytes_in}
 use Rattle.fields.specs.Parts.{messages_of}
+use Rattle.fields.specs.Outcome.{Outcome}
 use Rattle.wire.specs.declared.record.WireBlock.{WireBlock}
 use Rattle.wire.specs.Scan.{Scanned-as}
-use Rattle.lookup.specs.declared.by_number.GroupRange.{GroupRange}
-use Rattle.lookup.specs.declared.by_number.GroupRange.TheVariants as range
 use Rattle.lookup.specs.Lookup.{group_at, range_by, group_parts}
 use Rattle.lookup.proofs.laws.Scanned.{same_length, same_bytes, block_inside, record-stands, groups-counted, scanned-group}
 use Rattle.block.specs.Strings.{Text}
@@ -48,10 +48,10 @@ module _ {s : List ℕ} {r : WireBlock} {n : ℕ} {strings : List Text} (l : Lef
   groups-shown [] no_more no_more group named = subst (λ (c : Column Found). Streams Is c []) (sym (no-groups full s r group)) all-out
   groups-shown (p ∷ ps) (and-also x xs) (and-also c cs) group named =
       let here : group ≡ group + 0 = omega arith in
-      let this = subst (λ (g : List ℕ). Streams Is (enter_range full s group (range.Range p)) (group_made (made group) g)) x.bytes (group-shown l (showing group) p x.placed (ap check_group x.bytes ∙ c)) in
+      let this = subst (λ (g : List ℕ). Streams Is (enter_range full s group (Ok p)) (group_made (made group) g)) x.bytes (group-shown l (showing group) p x.placed (ap check_group x.bytes ∙ c)) in
       let behind : (i : ℕ) → group_at s r (suc group + i) ≡ range_by (get_elem? ps i) = λ i. let next : suc group + i ≡ group + suc i = omega arith in ap (group_at s r) next ∙ named (suc i) in
       subst (λ (c : Column Found). Streams Is c (groups_made made group (map (bytes_in block) (p ∷ ps)))) (sym (first_group full s r group (length ps)))
-      (subst (λ (a : GroupRange). Streams Is (enter_range full s group a then groups_from full s r (length ps) (suc group)) (groups_made made group (map (bytes_in block) (p ∷ ps)))) (sym (ap (group_at s r) here ∙ named 0))
+      (subst (λ (a : Outcome Part). Streams Is (enter_range full s group a then groups_from full s r (length ps) (suc group)) (groups_made made group (map (bytes_in block) (p ∷ ps)))) (sym (ap (group_at s r) here ∙ named 0))
       (streams_then this (groups-shown ps xs cs (suc group) behind)))
 
 -- ---- a walk at its start

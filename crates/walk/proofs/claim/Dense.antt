@@ -1,5 +1,6 @@
 -- The dense nodes of a group, on what a scan left: rows of one count and keys_vals with a node's pairs for each of them are read in step to
 -- their end, and each node shows what the listing says of it, whatever its info is.
+use Rattle.std.specs.Prelude.{Ok}
 use Prim.Native.Nat.{ℕ, suc}
 use mathlib.Core.Path.{◌≡◌, refl, sym, ap, subst}
 use mathlib.Core.List.{List, [], ◌∷◌}
@@ -7,7 +8,7 @@ use lib.IntN.{ℤ}
 use Rattle.protobuf.specs.Stream.{end, more, mapped}
 use Rattle.protobuf.specs.Column.{ended, Column}
 use Rattle.fields.specs.declared.part.Part.{Part}
-use Rattle.fields.specs.Outcome.{Outcome, kept}
+use Rattle.fields.specs.Outcome.{Outcome}
 use Rattle.fields.proofs.laws.Outcome.{each-kept, went}
 use Rattle.wire.specs.declared.record.WireBlock.{WireBlock}
 use Rattle.block.specs.Strings.{Text, shown}
@@ -30,12 +31,12 @@ use Rattle.walk.proofs.claim.Infos.{Readable, by-info}
 -- its pairs, where those of n more are behind them
 pub record NodeTaken (n : ℕ) (c : Column ℕ) (tags : List (List Pair)) : Type 0 where
   pub found : NodePairs
-  pub taken : take_pairs c ≡ kept found
+  pub taken : take_pairs c ≡ Ok found
   pub others : List (List Pair)
-  pub behind : dense_pairs n found.rest ≡ kept others
+  pub behind : dense_pairs n found.rest ≡ Ok others
   pub is : found.pairs ∷ others ≡ tags
 
-pub node-taken : (n : ℕ) (c : Column ℕ) {tags : List (List Pair)} → dense_pairs (suc n) c ≡ kept tags → NodeTaken n c tags
+pub node-taken : (n : ℕ) (c : Column ℕ) {tags : List (List Pair)} → dense_pairs (suc n) c ≡ Ok tags → NodeTaken n c tags
 unfolding dense_pairs
 node-taken n c e =
     let first = went (take_pairs c) _ e in
@@ -46,7 +47,7 @@ node-taken n c e =
 abbrev pub node_then : Row → Column Row → Column ℕ → RowInfo → Metadata → Column DenseItem
 node_then x rows c i infos = behind_pairs (take_pairs c) λ rest. more (node_by x c i) (nodes_of rows infos rest)
 
-pub node-then : (x : Row) (rows : Column Row) (c : Column ℕ) (i : RowInfo) (infos : Metadata) {found : NodePairs} → take_pairs c ≡ kept found → node_then x rows c i infos ≡ more (node_by x c i) (nodes_of rows infos found.rest)
+pub node-then : (x : Row) (rows : Column Row) (c : Column ℕ) (i : RowInfo) (infos : Metadata) {found : NodePairs} → take_pairs c ≡ Ok found → node_then x rows c i infos ≡ more (node_by x c i) (nodes_of rows infos found.rest)
 node-then x rows c i infos e = ap (λ (o : Outcome NodePairs). behind_pairs o λ rest. more (node_by x c i) (nodes_of rows infos rest)) e
 
 -- ---- all nodes
@@ -55,11 +56,11 @@ module _ {s : List ℕ} {r : WireBlock} {n : ℕ} {strings : List Text} (l : Lef
   abbrev HandsOut : Column DenseItem → List Element → Type 0
   HandsOut nodes es = Streams (Shows s r) (mapped (dense_found group message) nodes) es
 
-  node-shown : (id lat lon : ℤ) (c : Column ℕ) (i : RowInfo) {pairs : NodePairs} → take_pairs c ≡ kept pairs → Shows s r (dense_found group message (node_by (both id (both lat lon)) c i)) (listed.node_by group dense_node id lat lon (shown strings pairs.pairs))
+  node-shown : (id lat lon : ℤ) (c : Column ℕ) (i : RowInfo) {pairs : NodePairs} → take_pairs c ≡ Ok pairs → Shows s r (dense_found group message (node_by (both id (both lat lon)) c i)) (listed.node_by group dense_node id lat lon (shown strings pairs.pairs))
   node-shown id lat lon c i e =
       record { group = refl; kind = refl; id = refl; position = refl; tags = tags-shown l (pairs-taken c e); references = all-out; members = all-out }
 
-  pub dense-shown : {count : ℕ} {ids lats lons : Column ℤ} → Whole count ids → Whole count lats → Whole count lons → {infos : Metadata} → Readable infos → (c : Column ℕ) {tags : List (List Pair)} → dense_pairs count c ≡ kept tags
+  pub dense-shown : {count : ℕ} {ids lats lons : Column ℤ} → Whole count ids → Whole count lats → Whole count lons → {infos : Metadata} → Readable infos → (c : Column ℕ) {tags : List (List Pair)} → dense_pairs count c ≡ Ok tags
       → HandsOut (nodes_of (zip ids (zip lats lons)) infos c) (dense_by_sums group strings (values_of ids) (values_of lats) (values_of lons) tags)
   unfolding mapped zip values_of nodes_of dense_by_sums
   dense-shown no-values no-values no-values h c e = by-info (λ (y : Column DenseItem). HandsOut y []) h (λ i others. end ended) (λ i others k. all-out)

@@ -1,5 +1,6 @@
 -- A walk that enters a group's dense message, on what a scan left: its states' columns are those of the message's own bytes, plain or full, so
 -- that it has ahead the nodes of these columns and then the group's messages.
+use Rattle.std.specs.Prelude.{Ok}
 use Prim.Native.Nat.{ℕ, ◌+◌, ◌≤◌}
 use mathlib.Core.Path.{◌≡◌, ap, ◌∙◌}
 use mathlib.Core.List.{List}
@@ -8,7 +9,7 @@ use mathlib.Core.Bool.{Bool, true, false}
 use Rattle.protobuf.specs.Stream.{mapped}
 use Rattle.protobuf.specs.Column.{Column, column, int32s, sint32s, sint64s, bools, sums}
 use Rattle.fields.specs.declared.part.Part.{Part}
-use Rattle.fields.specs.Outcome.{Outcome, kept, each}
+use Rattle.fields.specs.Outcome.{Outcome, each}
 use Rattle.fields.specs.Part.{part_by, moved, bytes_in}
 use Rattle.fields.specs.Schema.{dense_nodes, dense_info}
 use Rattle.fields.specs.View.{Slots, view, view_in}
@@ -59,7 +60,7 @@ module _ {s : List ℕ} {r : WireBlock} {n : ℕ} {strings : List Text} (l : Lef
   abbrev v : WireDenseNodes
   v = dense_nodes_at m.start slots
 
-  pub viewed : each (dense_nodes_at m.start) (view_in dense_nodes s m.start m.len) ≡ kept v
+  pub viewed : each (dense_nodes_at m.start) (view_in dense_nodes s m.start m.len) ≡ Ok v
   unfolding each
   viewed = ap (each (dense_nodes_at m.start)) (own_view s n l.room l.small m within dense_nodes ∙ a.viewed)
 
@@ -78,10 +79,10 @@ module _ {s : List ℕ} {r : WireBlock} {n : ℕ} {strings : List Text} (l : Lef
   abbrev w : WireDenseInfo
   w = dense_info_at v.info.start columns
 
-  info-viewed : view dense_info (bytes_in s v.info) ≡ kept columns
+  info-viewed : view dense_info (bytes_in s v.info) ≡ Ok columns
   info-viewed = ap (view dense_info) (stands 5).bytes ∙ a.info
 
-  info-read : each (dense_info_at v.info.start) (view_in dense_info s v.info.start v.info.len) ≡ kept w
+  info-read : each (dense_info_at v.info.start) (view_in dense_info s v.info.start v.info.len) ≡ Ok w
   unfolding each
   info-read = ap (each (dense_info_at v.info.start)) (own_view s n l.room l.small v.info (stands 5).placed dense_info ∙ info-viewed)
 

@@ -1,6 +1,7 @@
 -- A group of an accepted block, on what a scan left: its dense nodes, its nodes, its ways and its relations are handed out in this order. It is
 -- said of whatever relation holds between what is handed out and what is made of the same bytes, so that it serves the elements of the listing and
 -- their metadata alike.
+use Rattle.std.specs.Prelude.{Ok}
 use Prim.Native.Nat.{ℕ, ◌+◌, ◌≤◌}
 use mathlib.Core.Path.{◌≡◌, sym, ap, ◌∙◌, subst}
 use mathlib.Core.List.{List, [], ◌++◌, map}
@@ -12,7 +13,7 @@ use Rattle.protobuf.specs.Stream.{mapped}
 use Rattle.message.specs.Message.{message}
 use Rattle.protobuf.specs.Column.{Column}
 use Rattle.fields.specs.declared.part.Part.{Part}
-use Rattle.fields.specs.Outcome.{Outcome, kept, each}
+use Rattle.fields.specs.Outcome.{Outcome, each}
 use Rattle.fields.specs.Part.{part_by, no_part, moved, bytes_in}
 use Rattle.fields.specs.Parts.{messages_of}
 use Rattle.fields.specs.Schema.{dense_nodes}
@@ -21,7 +22,6 @@ use Rattle.groups.specs.Group.{dense_from, dense_in}
 use Rattle.groups.proofs.laws.Group.{dense-holds}
 use Rattle.views.specs.declared.dense_nodes.WireDenseNodes.{WireDenseNodes}
 use Rattle.wire.specs.declared.record.WireBlock.{WireBlock}
-use Rattle.lookup.specs.declared.by_number.GroupRange.TheVariants as range
 use Rattle.block.specs.Strings.{Text}
 use Rattle.block.specs.Stored.{kept_or, slots_of, found_bytes, dense_bytes}
 use Rattle.block.specs.Check.{passed, all, check_node, check_way, check_relation, check_dense, check_found, check_group}
@@ -100,11 +100,11 @@ module _ {s : List ℕ} {r : WireBlock} {n : ℕ} {strings : List Text} (l : Lef
         subst (λ (o : Outcome WireDenseNodes). Streams Is (behind o (enter_dense full s of m)) (made.dense (bytes_in bytes (part_by start len)) ++ loose_made made bytes)) (sym (viewed l m part.placed a of))
         (subst (λ (c : Column Found). Streams Is c (made.dense (bytes_in bytes (part_by start len)) ++ loose_made made bytes)) (sym (entered l m part.placed a of full)) (streams_then nodes rest))
 
-  found_in_lem : {found : Part} → dense_from no_part (message bytes) ≡ kept found → each (moved g.start) (dense_in s g.start g.len) ≡ kept (moved g.start found)
+  found_in_lem : {found : Part} → dense_from no_part (message bytes) ≡ Ok found → each (moved g.start) (dense_in s g.start g.len) ≡ Ok (moved g.start found)
   unfolding dense_in each
   found_in_lem e = simp (le-leb (g.start + g.len) (length s) (omega (arith, l.room)), e)
 
-  pub group-shown : check_group bytes ≡ passed → Streams Is (enter_range full s group (range.Range g)) (group_made made bytes)
+  pub group-shown : check_group bytes ≡ passed → Streams Is (enter_range full s group (Ok g)) (group_made made bytes)
   unfolding check_group
   group-shown e =
       let pass = went (dense_from no_part (message bytes)) _ e in

@@ -1,5 +1,6 @@
 -- The nodes, ways and relations of a group, on what a scan left: each accepted message is viewed and handed out, and shows the listing's element
 -- of its bytes. All of a kind are handed out in their order, whatever it is that each of them shows.
+use Rattle.std.specs.Prelude.{Ok}
 use Prim.Native.Nat.{ℕ, ◌+◌, ◌≤◌}
 use mathlib.Core.Path.{◌≡◌, refl, sym, ap, ◌∙◌, subst}
 use mathlib.Core.List.{List, [], ◌∷◌, map}
@@ -8,7 +9,7 @@ use Rattle.protobuf.specs.Stream.{mapped}
 use Rattle.message.specs.Message.{message}
 use Rattle.protobuf.specs.Column.{Column, sint64s, sums}
 use Rattle.fields.specs.declared.part.Part.{Part}
-use Rattle.fields.specs.Outcome.{Outcome, kept, each}
+use Rattle.fields.specs.Outcome.{Outcome, each}
 use Rattle.fields.specs.Part.{moved, bytes_in}
 use Rattle.fields.specs.Parts.{parts_of, messages_of}
 use Rattle.fields.specs.Schema.{node, way, relation}
@@ -127,7 +128,7 @@ module _ {s : List ℕ} {r : WireBlock} {n : ℕ} {strings : List Text} (l : Lef
   abbrev placed : Column Placed → Column Found
   placed = mapped (placed_in group)
 
-  viewed : (m : Part) → m.start + m.len ≤ n → AcceptedAs kind (bytes_in s m) → viewed_as full kind s m ≡ kept (found_in full kind group s m).item
+  viewed : (m : Part) → m.start + m.len ≤ n → AcceptedAs kind (bytes_in s m) → viewed_as full kind s m ≡ Ok (found_in full kind group s m).item
   unfolding each
   viewed m h a = viewed_as_lem full kind s m ∙ ap (each (item_in full kind m.start)) (own_view s n l.room l.small m h (schema_of kind) ∙ a.viewed)
 

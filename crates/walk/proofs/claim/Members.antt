@@ -1,5 +1,6 @@
 -- The members of a relation, on what a scan left: roles, ids and types of one count are read in step to their end, each member with the role's
 -- text and the id that the listing has.
+use Rattle.std.specs.Prelude.{Ok}
 use Prim.Native.Nat.{ℕ, zero, suc}
 use mathlib.Core.Path.{◌≡◌, refl, sym, subst}
 use mathlib.Core.List.{List}
@@ -7,7 +8,6 @@ use lib.IntN.{ℤ, pos, negsuc}
 use Rattle.protobuf.specs.Stream.{mapped}
 use Rattle.protobuf.specs.Column.{Column, int32s, sint64s, sums}
 use Rattle.fields.specs.declared.part.Part.{Part}
-use Rattle.fields.specs.Outcome.{kept}
 use Rattle.wire.specs.declared.record.WireBlock.{WireBlock}
 use Rattle.block.specs.Strings.{Text, role_text}
 use Rattle.block.specs.Stored.{values_of}
@@ -33,7 +33,7 @@ same_id (pos (suc (suc (suc n)))) id = refl
 same_id (negsuc n) id = refl
 
 module _ {s : List ℕ} {r : WireBlock} {n : ℕ} {strings : List Text} (l : Left s r n strings) where
-  same-role : (role : ℤ) → text_of s (role_at s r role) ≡ kept (role_text strings role)
+  same-role : (role : ℤ) → text_of s (role_at s r role) ≡ Ok (role_text strings role)
   unfolding role_text
   same-role (pos i) = l.texts i
   same-role (negsuc i) = refl

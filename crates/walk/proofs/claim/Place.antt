@@ -1,5 +1,6 @@
 -- A message at a place of a buffer. The parts of its view, moved to the buffer's places, have the bytes that they have in the message itself,
 -- and a reader at the start of one has the message's own column ahead.
+use Rattle.std.specs.Prelude.{Ok}
 use Prim.Native.Nat.{ℕ, ◌+◌, ◌^◌, ◌≤◌, ◌<◌}
 use mathlib.Core.Path.{◌≡◌, refl, sym, ap, ◌∙◌, subst}
 use mathlib.Core.List.{List, [], ◌∷◌, ◌++◌}
@@ -18,7 +19,6 @@ use Rattle.protobuf.proofs.laws.Part.{column_shift}
 use Rattle.protobuf.proofs.laws.Stream.{Every, this-and}
 use Rattle.message.proofs.laws.Message.{all-within}
 use Rattle.fields.specs.declared.part.Part.{Part}
-use Rattle.fields.specs.Outcome.{kept}
 use Rattle.fields.specs.Part.{part_by, no_part, moved, bytes_in}
 use Rattle.fields.specs.Parts.{is_part, parts_of}
 use Rattle.fields.specs.View.{Schema, Slots, view, view_in}
@@ -89,7 +89,7 @@ module _ (s : List ℕ) (n : ℕ) (room : n ≤ length s) (small : n < 2 ^ 64) w
         ap (take len) (sym (drop-drop start m.start s)) ∙ sym (part-of-front (drop m.start s) m.len start len fits) in
         record { bytes = same; reader = subst (λ (t : List ℕ). Begins s (part_by (m.start + start) len) (column t)) same (begins-part (m.start + start) len (omega arith)); placed = omega arith }
 
-    pub parts_stand : (schema : Schema) {slots : Slots} → view schema (bytes_in s m) ≡ kept slots → (k : ℕ) → Stands (slots k).part
+    pub parts_stand : (schema : Schema) {slots : Slots} → view schema (bytes_in s m) ≡ Ok slots → (k : ℕ) → Stands (slots k).part
     parts_stand schema e k = parts_hold Stands schema (bytes_in s m) stands-none stands-part e k
 
 -- ---- the parts in one field

@@ -1,5 +1,6 @@
 -- Two accepted blocks list the same exactly where the comparison in step says so: what is compared of two elements that show the listing's
 -- decides whether the listing's elements are equal, and streams of them whether the lists are.
+use Rattle.std.specs.Prelude.{Ok}
 use Prim.Native.Nat.{ℕ}
 use mathlib.Core.Path.{◌≡◌, refl, sym, ap, ◌∙◌, subst}
 use mathlib.Core.List.{List, [], ◌∷◌}
@@ -11,7 +12,7 @@ use lib.ListN.{take}
 use lib.IntN.{ℤ, pos, negsuc}
 use borrow.Author.Tests.{eqb-true, eqb-false}
 use Rattle.protobuf.specs.Column.{Column}
-use Rattle.fields.specs.Outcome.{Outcome, kept, onward}
+use Rattle.fields.specs.Outcome.{Outcome, onward}
 use Rattle.wire.specs.declared.record.WireBlock.{WireBlock}
 use Rattle.block.specs.Strings.{Text}
 use Rattle.block.specs.Strings as listed
@@ -32,10 +33,10 @@ pub data Tests (P : Type 0) : Bool → Type 0 where
 
 -- the same of an outcome, which then is no number
 pub data Decides (P : Type 0) : Outcome Bool → Type 0 where
-  yes : P → Decides P (kept true)
-  no : (P → ⊥) → Decides P (kept false)
+  yes : P → Decides P (Ok true)
+  no : (P → ⊥) → Decides P (Ok false)
 
-decided : {P : Type 0} {b : Bool} → Tests P b → Decides P (kept b)
+decided : {P : Type 0} {b : Bool} → Tests P b → Decides P (Ok b)
 decided (holds p) = yes p
 decided (fails f) = no f
 
@@ -163,8 +164,8 @@ module _ (s : List ℕ) (r : WireBlock) (t : List ℕ) (q : WireBlock) where
   members-same : (a b : RelMember) (x y : Member) → MemberShows s r a x → MemberShows t q b y → Decides (x ≡ y) (same_member s r t q a b)
   unfolding onward
   members-same a b x y h k =
-      subst (λ (z : Outcome (Option Text)). Decides (x ≡ y) (onward z λ u. onward (text_of t (role_at t q b.role)) λ v. kept (also (same_role u v) (same_member_id (id_of a.id) (id_of b.id))))) (sym h.role)
-      (subst (λ (z : Outcome (Option Text)). Decides (x ≡ y) (onward z λ v. kept (also (same_role x.role v) (same_member_id (id_of a.id) (id_of b.id))))) (sym k.role)
+      subst (λ (z : Outcome (Option Text)). Decides (x ≡ y) (onward z λ u. onward (text_of t (role_at t q b.role)) λ v. Ok (also (same_role u v) (same_member_id (id_of a.id) (id_of b.id))))) (sym h.role)
+      (subst (λ (z : Outcome (Option Text)). Decides (x ≡ y) (onward z λ v. Ok (also (same_role x.role v) (same_member_id (id_of a.id) (id_of b.id))))) (sym k.role)
       (decided
       (tests-other
       (λ e. λ i. record { role = e.0 i; id = (sym h.id ∙ e.1 ∙ k.id) i })

@@ -1,5 +1,6 @@
 -- The tags of an element, on what a scan left: pairs of numbers that are a list's, looked up in the table, show what the listing shows of that
 -- list, up to the first pair with a number that has no text. The pairs are those of keys and vals in step, or of a dense node in keys_vals.
+use Rattle.std.specs.Prelude.{Ok, Option, Some, None, Err}
 use Prim.Native.Nat.{ℕ, zero, suc}
 use mathlib.Core.Path.{◌≡◌, refl, sym, ap, ◌∙◌, subst}
 use mathlib.Core.List.{List, [], ◌∷◌}
@@ -12,12 +13,10 @@ use Rattle.numbers.specs.Choose.{choose}
 use Rattle.protobuf.specs.Stream.{end, more, mapped}
 use Rattle.protobuf.specs.Column.{ended, cut, Column, uint32s}
 use Rattle.fields.specs.declared.part.Part.{Part}
-use Rattle.fields.specs.Outcome.{kept}
 use Rattle.fields.proofs.laws.Outcome.{each-kept, kept_same}
 use Rattle.fields.specs.Part.{bytes_in}
+use Rattle.fields.specs.Outcome.{Outcome}
 use Rattle.wire.specs.declared.record.WireBlock.{WireBlock}
-use Rattle.lookup.specs.declared.by_number.Got.{Got}
-use Rattle.lookup.specs.declared.by_number.Got.TheVariants as got
 use Rattle.lookup.specs.Lookup.{get_at}
 use Rattle.block.specs.Strings.{Text, text_at, shown}
 use Rattle.block.specs.Strings as listed
@@ -41,24 +40,24 @@ pub record SamePair (t : RawTag) (p : Pair) : Type 0 where
 
 module _ (s : List ℕ) (p : RawTag) (x y : Text) {rest : Column Tag} {others : List listed.Tag} (on : Streams (TagShows s) rest others) where
   -- by what is found of the key and of the value, and whether the listing has them
-  tag-shown : (g h : Got) (a b : Bool) → text_of s g ≡ kept (choose a (some x) none) → text_of s h ≡ kept (choose b (some y) none)
+  tag-shown : (g h : Outcome (Option Part)) (a b : Bool) → text_of s g ≡ Ok (choose a (some x) none) → text_of s h ≡ Ok (choose b (some y) none)
       → Streams (TagShows s) (tag_then p g h rest) (choose (choose a b false) (record { key = x; value = y } ∷ others) [])
-  tag-shown (got.Refused r) h a b e f = absurd (let z : ◌≡◌ {A = ℕ} 0 1 = cc in omega arith)
-  tag-shown got.None (got.Refused r) a b e f = absurd (let z : ◌≡◌ {A = ℕ} 0 1 = cc in omega arith)
-  tag-shown (got.Text k) (got.Refused r) a b e f = absurd (let z : ◌≡◌ {A = ℕ} 0 1 = cc in omega arith)
-  tag-shown got.None got.None false b e f = all-out
-  tag-shown got.None (got.Text v) false b e f = all-out
-  tag-shown got.None got.None true b e f = absurd (let z : ◌≡◌ {A = ℕ} 0 1 = cc in omega arith)
-  tag-shown got.None (got.Text v) true b e f = absurd (let z : ◌≡◌ {A = ℕ} 0 1 = cc in omega arith)
-  tag-shown (got.Text k) got.None true false e f = all-out
-  tag-shown (got.Text k) got.None true true e f = absurd (let z : ◌≡◌ {A = ℕ} 0 1 = cc in omega arith)
-  tag-shown (got.Text k) got.None false b e f = absurd (let z : ◌≡◌ {A = ℕ} 0 1 = cc in omega arith)
-  tag-shown (got.Text k) (got.Text v) true true e f =
+  tag-shown (Err r) h a b e f = absurd (let z : ◌≡◌ {A = ℕ} 0 1 = cc in omega arith)
+  tag-shown (Ok None) (Err r) a b e f = absurd (let z : ◌≡◌ {A = ℕ} 0 1 = cc in omega arith)
+  tag-shown (Ok (Some k)) (Err r) a b e f = absurd (let z : ◌≡◌ {A = ℕ} 0 1 = cc in omega arith)
+  tag-shown (Ok None) (Ok None) false b e f = all-out
+  tag-shown (Ok None) (Ok (Some v)) false b e f = all-out
+  tag-shown (Ok None) (Ok None) true b e f = absurd (let z : ◌≡◌ {A = ℕ} 0 1 = cc in omega arith)
+  tag-shown (Ok None) (Ok (Some v)) true b e f = absurd (let z : ◌≡◌ {A = ℕ} 0 1 = cc in omega arith)
+  tag-shown (Ok (Some k)) (Ok None) true false e f = all-out
+  tag-shown (Ok (Some k)) (Ok None) true true e f = absurd (let z : ◌≡◌ {A = ℕ} 0 1 = cc in omega arith)
+  tag-shown (Ok (Some k)) (Ok None) false b e f = absurd (let z : ◌≡◌ {A = ℕ} 0 1 = cc in omega arith)
+  tag-shown (Ok (Some k)) (Ok (Some v)) true true e f =
       let key : bytes_in s k ≡ x = cc in
       let value : bytes_in s v ≡ y = cc in
       one_more (record { key = key; value = value }) on
-  tag-shown (got.Text k) (got.Text v) true false e f = absurd (let z : ◌≡◌ {A = ℕ} 0 1 = cc in omega arith)
-  tag-shown (got.Text k) (got.Text v) false b e f = absurd (let z : ◌≡◌ {A = ℕ} 0 1 = cc in omega arith)
+  tag-shown (Ok (Some k)) (Ok (Some v)) true false e f = absurd (let z : ◌≡◌ {A = ℕ} 0 1 = cc in omega arith)
+  tag-shown (Ok (Some k)) (Ok (Some v)) false b e f = absurd (let z : ◌≡◌ {A = ℕ} 0 1 = cc in omega arith)
 
 module _ {s : List ℕ} {r : WireBlock} {n : ℕ} {strings : List Text} (l : Left s r n strings) where
   pub tags-shown : {c : Column RawTag} {ps : List Pair} → Streams SamePair c ps → Streams (TagShows s) (found_tags (get_at s r) c) (shown strings ps)
@@ -90,7 +89,7 @@ module _ {s : List ℕ} {r : WireBlock} {n : ℕ} {strings : List Text} (l : Lef
 
 -- ---- the pairs of a dense node
 
-pub pairs-taken : (c : Column ℕ) {found : NodePairs} → take_pairs c ≡ kept found → Streams SamePair (pairs_of c) found.pairs
+pub pairs-taken : (c : Column ℕ) {found : NodePairs} → take_pairs c ≡ Ok found → Streams SamePair (pairs_of c) found.pairs
 unfolding take_pairs pairs_of
 pairs-taken (end ended) e = subst (λ (found : NodePairs). Streams SamePair (end ended) found.pairs) (kept_same e) all-out
 pairs-taken (end (cut r)) e = absurd (let z : ◌≡◌ {A = ℕ} 0 1 = cc in omega arith)

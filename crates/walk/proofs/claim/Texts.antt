@@ -1,5 +1,6 @@
 -- Texts on what a scan left: the lookup of a number hands out the bytes that the block's own string table has at that number, and none where it
 -- has none. With it, all that the walk of a block needs of its buffer.
+use Rattle.std.specs.Prelude.{Ok}
 use Prim.Native.Nat.{ℕ, zero, suc, ◌^◌, ◌≤◌, ◌<◌}
 use mathlib.Core.Path.{◌≡◌, sym, ap, ◌∙◌}
 use mathlib.Core.List.{List, [], ◌∷◌, map}
@@ -10,7 +11,6 @@ use lib.Dec.{leb-suc-suc}
 use borrow.Author.Tests.{lt-ltb, le-ltb}
 use Rattle.message.specs.Message.{message}
 use Rattle.fields.specs.declared.part.Part.{Part}
-use Rattle.fields.specs.Outcome.{kept}
 use Rattle.fields.specs.Part.{part_by, moved, bytes_in}
 use Rattle.fields.specs.Parts.{parts_of, messages_of}
 use Rattle.fields.specs.Schema.{primitive_block}
@@ -32,14 +32,14 @@ pub record Left (s : List ℕ) (r : WireBlock) (n : ℕ) (strings : List Text) :
   pub room : n ≤ length s
   pub small : n < 2 ^ 64
   pub stands : is_record_inside s r ≡ true
-  pub texts : (i : ℕ) → text_of s (get_at s r i) ≡ kept (text_at strings i)
+  pub texts : (i : ℕ) → text_of s (get_at s r i) ≡ Ok (text_at strings i)
 
 -- parts by their number, moved to the buffer's places, and their bytes in the table t
 module _ (s : List ℕ) (base : ℕ) (t : List ℕ) where
   abbrev Same : Part → Type 0
   Same p = bytes_in s (moved base p) ≡ bytes_in t p
 
-  texts-by : (ps : List Part) → Each Same ps → (i : ℕ) → text_of s (got_by (get_elem? (map (moved base) ps) i)) ≡ kept (text_at (map (bytes_in t) ps) i)
+  texts-by : (ps : List Part) → Each Same ps → (i : ℕ) → text_of s (got_by (get_elem? (map (moved base) ps) i)) ≡ Ok (text_at (map (bytes_in t) ps) i)
   unfolding text_at
   texts-by [] h i = simp (le-ltb i 0 (omega arith))
   texts-by (p ∷ ps) (and-also e rest) zero = simp (lt-ltb 0 (suc (length (map (bytes_in t) ps))) (omega arith), e)
@@ -66,14 +66,14 @@ module _ {s : List ℕ} {r : WireBlock} {b : List ℕ} {n : ℕ} (w : Scanned-as
       let part = stands-part block (length block) (omega arith) (omega (arith, scan.below)) table (omega (arith, strings-within scan.read.before)) start len h in
       same_bytes w (moved table.start (part_by start len)) (omega (arith, part.placed)) ∙ part.bytes)
 
-  texts : (i : ℕ) → text_of s (get_at s r i) ≡ kept (text_at (strings_of block) i)
+  texts : (i : ℕ) → text_of s (get_at s r i) ≡ Ok (text_at (strings_of block) i)
   unfolding string_parts strings_of messages_of
   texts i =
       let chosen = string_table_lem scan.read.before in
       ap (text_of s) (scanned_get w i)
       ∙ ap (λ (p : Part). text_of s (got_by (get_elem? (map (moved p.start) (parts_of 1 (message (bytes_in block p)))) i))) (sym chosen)
       ∙ texts-by s table.start (bytes_in block table) (parts_of 1 (message (bytes_in block table))) same i
-      ∙ ap (λ (p : Part). kept (text_at (map (bytes_in (bytes_in block p)) (parts_of 1 (message (bytes_in block p)))) i)) (sym listed)
+      ∙ ap (λ (p : Part). Ok (text_at (map (bytes_in (bytes_in block p)) (parts_of 1 (message (bytes_in block p)))) i)) (sym listed)
 
   pub left : Left s r n (strings_of block)
   left = record { room = block_inside w; small = omega (arith, scan.below); stands = record-stands w; texts = texts }

@@ -1,6 +1,7 @@
 -- The claim's tie to the code: what the contracts of the scan, the check, the walk's start, `step`, `next`, and the starts and steps over tags,
 -- references and members tell a caller (their generated readings) is what a run of the claim is made of, and with no other premise. A contract
 -- that promises less breaks a law here, while the claim's own words stay as they are.
+use Rattle.std.specs.Prelude.{Ok}
 use Prim.Native.Nat.{ℕ}
 use mathlib.Core.Path.{◌≡◌, refl, sym, ap, ◌∙◌, subst}
 use mathlib.Core.List.{List, ◌∷◌}
@@ -11,20 +12,15 @@ use denote.Triple.Clauses.{AtExit}
 use borrow.Fn.Kinds.{ended_of}
 use borrow.Fn.World.{ArgsD, ResD}
 use native.Mathlib.Omega.{arith}
-use Rattle.fields.specs.Outcome.{kept, each}
+use Rattle.fields.specs.Outcome.{each}
 use Rattle.wire.specs.declared.record.WireBlock.{WireBlock}
-use Rattle.wire.specs.declared.scan.BlockScan.TheVariants as scanned
-use Rattle.wire.specs.declared.scan.BlockScan.{BlockScan}
-use Rattle.wire.specs.Scan.{Scanned, meta, scanned_record, Scanned-as}
+use Rattle.wire.specs.Scan.{Scanned, meta, Scanned-as}
 use Rattle.wire.specs.Scan.{scanned as scannedAs}
 use Rattle.wire.specs.contracts.scan.scan as scan
 use Rattle.wire.proofs.scan.scan.Kinds as scan-kinds
 use Rattle.wire.proofs.scan.scan.Reads as scan-reads
 use Rattle.wire.proofs.laws.Leaves.{scan-leaves}
 use Rattle.block.specs.Check.{passed, checked}
-use Rattle.passes.specs.declared.checked.Checked.{Checked}
-use Rattle.passes.specs.declared.checked.Checked.TheVariants as checks
-use Rattle.passes.specs.Checked.{check_of}
 use Rattle.accept.specs.contracts.check.check as check
 use Rattle.accept.proofs.check.check.Kinds as check-kinds
 use Rattle.accept.proofs.check.check.Reads as check-reads
@@ -71,38 +67,30 @@ use Rattle.walk.proofs.state.BlockElementsIter.next.Reads as next-reads
 
 -- ---- accepted is scanned and checked
 
-is-accepted : (y : Checked) → check_of y ≡ passed → y ≡ checks.Accepted
-is-accepted checks.Accepted e = refl
-is-accepted (checks.Refused n) e = absurd (let z : ◌≡◌ {A = ℕ} 0 1 = cc in omega arith)
-
-is-scanned : (z : BlockScan) {r : WireBlock} → scanned_record z ≡ kept r → z ≡ scanned.Scanned r
-is-scanned (scanned.Scanned r) e = cc
-is-scanned (scanned.Refused n) e = absurd (let z : ◌≡◌ {A = ℕ} 0 1 = cc in omega arith)
-
 module _ (κs : Lfts 1) (a : ArgsD scan.signature κs) (z : ResD scan.signature κs) (e : AtExit (ended_of 1 scan-kinds.ps scan-kinds.r) κs) (told : scan-reads.Learnt κs a z e) where
   -- a call of the check over the buffer that the scan left, with the record that it gave
-  module _ {r : WireBlock} (is : z ≡ scanned.Scanned r) (μs : Lfts 1) (c : ArgsD check.signature μs) (y : ResD check.signature μs) (f : AtExit (ended_of 1 check-kinds.ps check-kinds.r) μs) (same-buffer : e.0.now ≡ c.0.now) (same-record : r ≡ c.1.0) (said : check-reads.Learnt μs c y f) where
+  module _ {r : WireBlock} (is : z ≡ Ok r) (μs : Lfts 1) (c : ArgsD check.signature μs) (y : ResD check.signature μs) (f : AtExit (ended_of 1 check-kinds.ps check-kinds.r) μs) (same-buffer : e.0.now ≡ c.0.now) (same-record : r ≡ c.1.0) (said : check-reads.Learnt μs c y f) where
     left : Scanned-as e.0.now r a.0.now a.1.0
     left = scan-leaves κs a z e told is
 
-    checked-is : check_of y ≡ checked (take a.1.0 a.0.now)
+    checked-is : y ≡ checked (take a.1.0 a.0.now)
     checked-is =
         said.1 a.0.now a.1.0
         (subst (λ (q : WireBlock). Scanned-as c.0.now q a.0.now a.1.0) same-record
         (subst (λ (s : List ℕ). Scanned-as s r a.0.now a.1.0) same-buffer left))
 
     -- what the code accepts is accepted
-    pub accepted : y ≡ checks.Accepted → Accepted e.0.now r a.0.now a.1.0
-    accepted answer = record { scan = left; check = sym checked-is ∙ ap check_of answer }
+    pub accepted : y ≡ passed → Accepted e.0.now r a.0.now a.1.0
+    accepted answer = record { scan = left; check = sym checked-is ∙ answer }
 
     -- and what is accepted the code accepts
-    pub accepts : checked (take a.1.0 a.0.now) ≡ passed → y ≡ checks.Accepted
-    accepts passes = is-accepted y (checked-is ∙ passes)
+    pub accepts : checked (take a.1.0 a.0.now) ≡ passed → y ≡ passed
+    accepts passes = checked-is ∙ passes
 
   -- a block that the definition scans the code scans
-  pub scans : {x : Scanned} → scannedAs a.0.now a.1.0 ≡ kept x → z ≡ scanned.Scanned x.block
+  pub scans : {x : Scanned} → scannedAs a.0.now a.1.0 ≡ Ok x → z ≡ Ok x.block
   unfolding each
-  scans so = is-scanned z (told.0 ∙ ap (each meta) so)
+  scans so = told.0 ∙ ap (each meta) so
 
 -- ---- a walk
 

@@ -1,6 +1,7 @@
 -- The metadata that a full walk shows of a message, on what a scan left: an element's Info is viewed at its place and has the bytes that the
 -- listing reads it from; the rows of a dense message are read in step with its nodes, and are those that the listing reads. The check has read
 -- both whole, so neither is refused.
+use Rattle.std.specs.Prelude.{Ok}
 use Prim.Native.Nat.{ℕ, suc, ◌+◌, ◌≤◌}
 use mathlib.Core.Path.{◌≡◌, refl, sym, ap, ◌∙◌, subst}
 use mathlib.Core.List.{List, [], ◌∷◌}
@@ -10,11 +11,11 @@ use lib.IntN.{ℤ}
 use Rattle.protobuf.specs.Stream.{end, mapped}
 use Rattle.protobuf.specs.Column.{ended, Column}
 use Rattle.fields.specs.declared.part.Part.{Part}
-use Rattle.fields.specs.Outcome.{kept, each}
+use Rattle.fields.specs.Outcome.{each}
 use Rattle.fields.specs.Part.{moved, bytes_in}
 use Rattle.fields.specs.Schema.{info}
 use Rattle.fields.specs.View.{Slots, view}
-use Rattle.views.specs.Info.{info_fields, info_of}
+use Rattle.views.specs.Info.{info_of}
 use Rattle.wire.specs.declared.record.WireBlock.{WireBlock}
 use Rattle.block.specs.Infos.{Info, Infos, NextInfo, stopped, present, missing, next_info}
 use Rattle.block.specs.Strings.{Text}
@@ -38,7 +39,7 @@ use Rattle.walk.proofs.claim.Dense.{node-taken, node_then, node-then}
 
 -- what is found has this metadata
 abbrev pub Tells : List ℕ → Found → Metadata → Type 0
-Tells s f m = metadata_of s f.item ≡ some (kept m)
+Tells s f m = metadata_of s f.item ≡ some (Ok m)
 
 -- ---- an Info
 
@@ -55,7 +56,7 @@ module _ {s : List ℕ} {r : WireBlock} {n : ℕ} {strings : List Text} (l : Lef
   slots = slots_of (schema_of kind) t
 
   abbrev metadata : Slots → Metadata
-  metadata x = viewed (info_of (info_fields x))
+  metadata x = viewed (info_of x)
 
   pub loose-told : Tells s (found_in true kind group s m) (element_info (schema_of kind) t)
   unfolding element_info each
@@ -65,7 +66,7 @@ module _ {s : List ℕ} {r : WireBlock} {n : ℕ} {strings : List Text} (l : Lef
       let kept-view = own_view s n l.room l.small part at.placed info ∙ ap (view info) at.bytes ∙ a.info in
       info_in_lem s kind m.start slots
       ∙ ap (λ x. some (each metadata x)) kept-view
-      ∙ ap (λ (x : Slots). some (kept (metadata x))) (slots_kept info (bytes_in t (slots 4).part) a.info)
+      ∙ ap (λ (x : Slots). some (Ok (metadata x))) (slots_kept info (bytes_in t (slots 4).part) a.info)
 
 -- ---- the rows of dense nodes
 
@@ -74,7 +75,7 @@ module _ (s : List ℕ) (group : ℕ) (message : Part) where
   HandsOut nodes ms = Streams (Tells s) (mapped (dense_found group message) nodes) ms
 
   -- a node whose pairs are taken, with its row, where the nodes behind it have theirs
-  module _ (count : ℕ) (x : Row) (rows : Column Row) (c : Column ℕ) {found : NodePairs} (taken : take_pairs c ≡ kept found) (behind : (rest : Infos) → AllEnd rest → HandsOut (nodes_of rows (some rest) found.rest) (node_infos count rest)) where
+  module _ (count : ℕ) (x : Row) (rows : Column Row) (c : Column ℕ) {found : NodePairs} (taken : take_pairs c ≡ Ok found) (behind : (rest : Infos) → AllEnd rest → HandsOut (nodes_of rows (some rest) found.rest) (node_infos count rest)) where
     node-told : (i : Option Info) (rest : Infos) → AllEnd rest → HandsOut (node_then x rows c (row i) (some rest)) (in_step i ∷ node_infos count rest)
     unfolding mapped
     node-told i rest k =
@@ -86,7 +87,7 @@ module _ (s : List ℕ) (group : ℕ) (message : Part) where
     row_told (present i rest) (has_info k) = node-told (some i) rest k
     row_told (missing rest) (no-info k) = node-told none rest k
 
-  pub dense-told : {count : ℕ} {ids lats lons : Column ℤ} → Whole count ids → Whole count lats → Whole count lons → {x : Infos} → AllEnd x → (c : Column ℕ) {tags : List (List Pair)} → dense_pairs count c ≡ kept tags
+  pub dense-told : {count : ℕ} {ids lats lons : Column ℤ} → Whole count ids → Whole count lats → Whole count lons → {x : Infos} → AllEnd x → (c : Column ℕ) {tags : List (List Pair)} → dense_pairs count c ≡ Ok tags
       → HandsOut (nodes_of (zip ids (zip lats lons)) (some x) c) (node_infos count x)
   unfolding mapped zip nodes_of node_infos
   dense-told no-values no-values no-values h c e = by-info (λ (y : Column DenseItem). HandsOut y []) (all_read h) (λ i others. end ended) (λ i others k. all-out)

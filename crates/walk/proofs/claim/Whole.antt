@@ -1,5 +1,6 @@
 -- A column that is read whole, which is what the check asks of every column that a walk reads: it ends with no refusal, behind as many values
 -- as were counted. What its field's type or a running sum makes of it is read whole as well.
+use Rattle.std.specs.Prelude.{Ok}
 use Prim.Native.Nat.{ℕ, zero, suc, ◌+◌}
 use mathlib.Core.Path.{◌≡◌, refl, ap, subst}
 use native.Mathlib.Omega.{arith}
@@ -8,7 +9,6 @@ use lib.ListN.{length}
 use Rattle.numbers.specs.Signed.{wrapping_add}
 use Rattle.protobuf.specs.Stream.{end, more, mapped}
 use Rattle.protobuf.specs.Column.{ended, cut, Column, sint64s, sums_from, sums}
-use Rattle.fields.specs.Outcome.{kept}
 use Rattle.fields.proofs.laws.Outcome.{each-kept, went, kept_same}
 use Rattle.block.specs.Columns.{count_of}
 use Rattle.block.specs.Stored.{values_of}
@@ -26,7 +26,7 @@ pub record Ends {A : Type 0} (c : Column A) : Type 0 where
   pub count : ℕ
   pub whole : Whole count c
 
-counted-whole : {A : Type 0} (c : Column A) {n : ℕ} → count_of c ≡ kept n → Whole n c
+counted-whole : {A : Type 0} (c : Column A) {n : ℕ} → count_of c ≡ Ok n → Whole n c
 unfolding count_of
 counted-whole {A} (end ended) e = subst (λ (k : ℕ). Whole {A = A} k (end ended)) (kept_same e) no-values
 counted-whole (end (cut r)) e = absurd (let z : ◌≡◌ {A = ℕ} 0 1 = cc in omega arith)
@@ -70,12 +70,12 @@ pub record Three (n : ℕ) (a b c : Column ℕ) : Type 0 where
   pub second : Whole n b
   pub third : Whole n c
 
-pub whole-two : (a b : Column ℕ) {n : ℕ} → agreed (count_of a) (count_of b) ≡ kept n → Whole n a × Whole n b
+pub whole-two : (a b : Column ℕ) {n : ℕ} → agreed (count_of a) (count_of b) ≡ Ok n → Whole n a × Whole n b
 whole-two a b e =
     let both = agree_both (count_of a) (count_of b) e in
     (counted-whole a both.0, counted-whole b both.1)
 
-pub whole-three : (a b c : Column ℕ) {n : ℕ} → same_three a b c ≡ kept n → Three n a b c
+pub whole-three : (a b c : Column ℕ) {n : ℕ} → same_three a b c ≡ Ok n → Three n a b c
 whole-three a b c e =
     let first = agree_both (count_of a) (agreed (count_of b) (count_of c)) e in
     let others = whole-two b c first.1 in

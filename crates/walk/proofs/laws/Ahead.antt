@@ -1,5 +1,6 @@
 -- The laws of what is ahead, by its first part: what is read whole and a stream behind it; a group and those behind it; one kind of elements
 -- and others behind it; the messages of a kind, those of the next kinds, and other groups.
+use Rattle.std.specs.Prelude.{Ok, Err}
 use Prim.Native.Nat.{ℕ, suc, ◌+◌, ◌-◌}
 use mathlib.Core.Path.{◌≡◌, refl, ap, ◌∙◌}
 use mathlib.Core.List.{List}
@@ -8,7 +9,7 @@ use native.Mathlib.Omega.{arith}
 use Rattle.protobuf.specs.declared.refusal.Refusal.{Refusal}
 use Rattle.protobuf.specs.Stream.{end, more, mapped}
 use Rattle.protobuf.specs.Column.{ended, cut, Column}
-use Rattle.fields.specs.Outcome.{Outcome, kept, refused}
+use Rattle.fields.specs.Outcome.{Outcome}
 use Rattle.wire.specs.declared.record.WireBlock.{WireBlock}
 use Rattle.lookup.specs.Lookup.{group_at}
 use Rattle.walk.specs.Walk.{Found, ◌then◌, behind, enter_range, groups_from, groups_behind, placed_in, from_kind, elements_by}
@@ -21,11 +22,11 @@ use Rattle.kinds.specs.declared.state.Loose.TheVariants as kind
 
 -- what is read whole, and then a stream behind it
 module _ {A B : Type 0} {x : Outcome A} (f : A → Column B) (others : Column B) where
-  pub behind-refused : {n : Refusal} → x ≡ refused n → behind x f then others ≡ end (cut n)
+  pub behind-refused : {n : Refusal} → x ≡ Err n → behind x f then others ≡ end (cut n)
   unfolding ◌then◌
   behind-refused e = ap (λ (y : Outcome A). behind y f then others) e
 
-  pub behind-kept : {a : A} → x ≡ kept a → behind x f then others ≡ f a then others
+  pub behind-kept : {a : A} → x ≡ Ok a → behind x f then others ≡ f a then others
   behind-kept e = ap (λ (y : Outcome A). behind y f then others) e
 
 -- groups from a number on: none, or the first one and then the others

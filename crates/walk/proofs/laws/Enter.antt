@@ -1,5 +1,6 @@
 -- The laws of a walk's way into a group: its entry, its dense message, and their columns, which are inside the buffer because the parts that
 -- a view hands out are.
+use Rattle.std.specs.Prelude.{Ok, Err}
 use Prim.Native.Nat.{ℕ, suc, ◌+◌, ◌-◌, ◌*◌, ◌^◌, ◌≤◌, ◌<◌}
 use mathlib.Core.Path.{◌≡◌, refl, sym, ap, ◌∙◌, subst}
 use mathlib.Core.List.{List}
@@ -15,7 +16,7 @@ use Rattle.protobuf.specs.Stream.{end}
 use Rattle.protobuf.specs.Column.{ended, cut, Column}
 use Rattle.numbers.specs.Choose.{choose}
 use Rattle.fields.specs.declared.part.Part.{Part}
-use Rattle.fields.specs.Outcome.{kept, refused, each}
+use Rattle.fields.specs.Outcome.{each, Outcome}
 use Rattle.fields.specs.Part.{moved, is_inside}
 use Rattle.fields.specs.View.{Schema, Slots, view, view_in}
 use Rattle.fields.specs.Schema.{dense_nodes, dense_info}
@@ -27,9 +28,7 @@ use Rattle.views.specs.DenseNodes.{dense_nodes_at}
 use Rattle.views.specs.DenseInfo.{dense_info_at}
 use Rattle.groups.specs.Group.{dense_in}
 use Rattle.wire.specs.declared.record.WireBlock.{WireBlock}
-use Rattle.lookup.specs.declared.by_number.GroupRange.{GroupRange}
 use Rattle.lookup.specs.Lookup.{entry_at, is_record_inside, group_at}
-use Rattle.lookup.specs.declared.by_number.GroupRange.TheVariants as range
 use Rattle.columns.specs.InStep.{start_of}
 use Rattle.columns.specs.Inside.{also, column_inside, infos_inside}
 use Rattle.columns.proofs.laws.Inside.{also-true}
@@ -61,11 +60,11 @@ module _ (s : List ℕ) (small : length s < 2 ^ 64) where
   start-inside p h = start-by p p.present refl h
 
   -- what a view of a part hands out
-  module _ {A : Type 0} (at : ℕ → Slots → A) (schema : Schema) (start len : ℕ) {v : A} (e : each (at start) (view_in schema s start len) ≡ kept v) where
-    found : (slots : Slots) × (view_in schema s start len ≡ kept slots) × (at start slots ≡ v)
+  module _ {A : Type 0} (at : ℕ → Slots → A) (schema : Schema) (start len : ℕ) {v : A} (e : each (at start) (view_in schema s start len) ≡ Ok v) where
+    found : (slots : Slots) × (view_in schema s start len ≡ Ok slots) × (at start slots ≡ v)
     found = each-kept (at start) (view_in schema s start len) e
 
-    tested : (leb (start + len) (length s) ≡ true) × (view schema (take len (drop start s)) ≡ kept found.0)
+    tested : (leb (start + len) (length s) ≡ true) × (view schema (take len (drop start s)) ≡ Ok found.0)
     unfolding view_in
     tested = chosen (leb (start + len) (length s)) (view schema (take len (drop start s))) _ found.1
 
@@ -82,7 +81,7 @@ module _ (s : List ℕ) (small : length s < 2 ^ 64) where
         (parts_hold (λ (p : Part). (moved start p).start + (moved start p).len ≤ length s) schema (take len (drop start s)) (omega arith)
         (λ from size h. omega (arith, h, own-length, message-inside)) tested.1 k))
 
-  dense-started : (start len : ℕ) {v : WireDenseNodes} → each (dense_nodes_at start) (view_in dense_nodes s start len) ≡ kept v → columns_inside s (record { rows = rows_start v; keyvals = start_of v.keyvals }) ≡ true
+  dense-started : (start len : ℕ) {v : WireDenseNodes} → each (dense_nodes_at start) (view_in dense_nodes s start len) ≡ Ok v → columns_inside s (record { rows = rows_start v; keyvals = start_of v.keyvals }) ≡ true
   dense-started start len e =
       also-true
       (also-true (column-started dense_nodes_at dense_nodes start len e (λ v. v.id) 1 (λ slots. refl))
@@ -90,7 +89,7 @@ module _ (s : List ℕ) (small : length s < 2 ^ 64) where
       (column-started dense_nodes_at dense_nodes start len e (λ v. v.lon) 9 (λ slots. refl))))
       (column-started dense_nodes_at dense_nodes start len e (λ v. v.keyvals) 10 (λ slots. refl))
 
-  infos-started : (start len : ℕ) {v : WireDenseInfo} → each (dense_info_at start) (view_in dense_info s start len) ≡ kept v → infos_inside s (infos_start v) ≡ true
+  infos-started : (start len : ℕ) {v : WireDenseInfo} → each (dense_info_at start) (view_in dense_info s start len) ≡ Ok v → infos_inside s (infos_start v) ≡ true
   infos-started start len e =
       also-true (column-started dense_info_at dense_info start len e (λ v. v.version) 1 (λ slots. refl))
       (also-true (column-started dense_info_at dense_info start len e (λ v. v.timestamp) 2 (λ slots. refl))
@@ -103,14 +102,14 @@ module _ (s : List ℕ) (small : length s < 2 ^ 64) where
 
 module _ (s : List ℕ) (r : WireBlock) (small : length s < 2 ^ 64) where
   pub enters_infos : (nodes : DenseNodeIter) (info : Part) {v : WireDenseInfo} {q : Move} → dense_inside s r nodes ≡ true → q ≡ moves_to (walk.FullDenseNodes (record { nodes = nodes; infos = infos_start v }))
-      → each (dense_info_at info.start) (view_in dense_info s info.start info.len) ≡ kept v → Quietly s r (left_from r nodes.of.group) (at_infos s r nodes info) q
+      → each (dense_info_at info.start) (view_in dense_info s info.start info.len) ≡ Ok v → Quietly s r (left_from r nodes.of.group) (at_infos s r nodes info) q
   enters_infos nodes info {v} inside is e =
       quiet_moved s r (walk.FullDenseNodes (record { nodes = nodes; infos = infos_start v })) is (also-true inside (infos-started s small info.start info.len e))
       (near r nodes.of.group 1 (group-below s r nodes.of (dense-group s r nodes inside)) (omega arith)) (behind-kept _ _ e)
 
   -- a dense message that is viewed
   module _ (of : GroupRangeAt) (message : Part) {v : WireDenseNodes} {nodes : DenseNodeIter} (inside : group_inside s r of ≡ true) (is : nodes ≡ dense_start of message v)
-      (e : each (dense_nodes_at message.start) (view_in dense_nodes s message.start message.len) ≡ kept v) where
+      (e : each (dense_nodes_at message.start) (view_in dense_nodes s message.start message.len) ≡ Ok v) where
     pub nodes-inside : dense_inside s r nodes ≡ true
     nodes-inside =
         ap (dense_inside s r) is
@@ -134,12 +133,12 @@ module _ (s : List ℕ) (r : WireBlock) (small : length s < 2 ^ 64) where
 -- ---- into a group
 
 module _ (s : List ℕ) (r : WireBlock) where
-  range-by : (a b : Bool) (x : Part) {p : Part} → is_inside s x ≡ b → choose a (choose b (range.Range x) (range.Refused Outside)) (range.Refused Outside) ≡ range.Range p → is_inside s p ≡ true
+  range-by : (a b : Bool) (x : Part) {p : Part} → is_inside s x ≡ b → choose a (choose b (Ok x) (Err Outside)) (Err Outside) ≡ Ok p → is_inside s p ≡ true
   range-by true true x {p} g e = let same : x ≡ p = cc in subst (λ (y : Part). is_inside s y ≡ true) same g
   range-by true false x g e = absurd (let z : ◌≡◌ {A = ℕ} 0 1 = cc in omega arith)
   range-by false b x g e = absurd (let z : ◌≡◌ {A = ℕ} 0 1 = cc in omega arith)
 
-  range_inside : (i : ℕ) {p : Part} → group_at s r i ≡ range.Range p → is_inside s p ≡ true
+  range_inside : (i : ℕ) {p : Part} → group_at s r i ≡ Ok p → is_inside s p ≡ true
   unfolding group_at
   range_inside i e = range-by (choose (is_record_inside s r) (ltb i r.groups) false) (is_inside s (entry_at s (r.grouptable + 8 * i))) (entry_at s (r.grouptable + 8 * i)) refl e
 
@@ -159,21 +158,21 @@ module _ (s : List ℕ) (r : WireBlock) where
           let one : r.groups - group ≡ suc (r.groups - suc group) = omega arith in
           ap (λ (n : ℕ). groups_from full s r n group) one ∙ first_group full s r group (r.groups - suc group)
 
-      pub no-range : {n : Refusal} → group_at s r group ≡ range.Refused n → from ≡ end (cut n)
+      pub no-range : {n : Refusal} → group_at s r group ≡ Err n → from ≡ end (cut n)
       unfolding ◌then◌
-      no-range e = one-group ∙ ap (λ (x : GroupRange). enter_range full s group x then groups_from full s r (r.groups - suc group) (suc group)) e
+      no-range e = one-group ∙ ap (λ (x : Outcome Part). enter_range full s group x then groups_from full s r (r.groups - suc group) (suc group)) e
 
-      module _ {p : Part} (e : group_at s r group ≡ range.Range p) where
+      module _ {p : Part} (e : group_at s r group ≡ Ok p) where
         pub range-stands : group_inside s r (range_of p) ≡ true
         range-stands = also-true (lt-ltb _ _ below) (range_inside group e)
 
         in_range : from ≡ behind (each (moved p.start) (dense_in s p.start p.len)) (enter_found full s (range_of p)) then groups_behind full s r (range_of p)
-        in_range = one-group ∙ ap (λ (x : GroupRange). enter_range full s group x then groups_from full s r (r.groups - suc group) (suc group)) e
+        in_range = one-group ∙ ap (λ (x : Outcome Part). enter_range full s group x then groups_from full s r (r.groups - suc group) (suc group)) e
 
-        pub no_pass : {n : Refusal} → each (moved p.start) (dense_in s p.start p.len) ≡ refused n → from ≡ end (cut n)
+        pub no_pass : {n : Refusal} → each (moved p.start) (dense_in s p.start p.len) ≡ Err n → from ≡ end (cut n)
         no_pass g = in_range ∙ behind-refused (enter_found full s (range_of p)) (groups_behind full s r (range_of p)) g
 
-        module _ {message : Part} (g : each (moved p.start) (dense_in s p.start p.len) ≡ kept message) where
+        module _ {message : Part} (g : each (moved p.start) (dense_in s p.start p.len) ≡ Ok message) where
           pub passed : from ≡ enter_found full s (range_of p) message then groups_behind full s r (range_of p)
           passed = in_range ∙ behind-kept (enter_found full s (range_of p)) (groups_behind full s r (range_of p)) g
 

@@ -1,4 +1,5 @@
 -- Laws of the loops of a call: elements that follow one another, by whichever way the next one is found; then elements by steps.
+use Rattle.std.specs.Prelude.{Ok}
 use Prim.Native.Nat.{ℕ, ◌+◌, ◌-◌, ◌*◌, ◌≤◌, ◌<◌}
 use mathlib.Core.Path.{◌≡◌, refl, sym, ap, ◌∙◌, subst}
 use mathlib.Core.List.{List}
@@ -10,7 +11,6 @@ use borrow.Author.Tests.{le-leb}
 use Rattle.protobuf.specs.Stream.{end, more}
 use Rattle.protobuf.specs.Column.{Column}
 use Rattle.fields.specs.declared.part.Part.{Part}
-use Rattle.fields.specs.Outcome.{kept}
 use Rattle.wire.specs.declared.record.WireBlock.{WireBlock}
 use Rattle.lookup.specs.Lookup.{is_record_inside}
 use Rattle.columns.proofs.laws.Inside.{also-true}
@@ -74,7 +74,7 @@ module _ (s : List ℕ) where
     message-inside : (r : WireBlock) → state_inside s r (walk.Messages m) ≡ true → state_inside s r (walk.Messages (at_place m behind)) ≡ true
     message-inside r h = also-true (both_hold (group_inside s r m.of) _ h).0 (le-leb behind m.of.len f.within)
 
-    pub message-onward : (e : Element) → viewed_as m.full m.kind s message ≡ kept (item_of s e)
+    pub message-onward : (e : Element) → viewed_as m.full m.kind s message ≡ Ok (item_of s e)
         → Onward s (walk.Messages m) (record { group = m.of.group; message = message; element = e }) (walk.Messages (at_place m behind))
     message-onward e k =
         record {

@@ -1,4 +1,5 @@
 -- Laws of a message that is put: its four numbers of place and then those of its view are an element's; and by the case of its kind.
+use Rattle.std.specs.Prelude.{Ok}
 use Prim.Native.Nat.{ℕ, ◌+◌, ◌*◌, ◌≤◌}
 use mathlib.Core.Path.{◌≡◌, refl, sym, ap, ◌∙◌, subst}
 use mathlib.Core.List.{List, [], ◌∷◌, ◌++◌}
@@ -7,7 +8,6 @@ use native.Mathlib.Omega.{arith}
 use lib.ListN.{length, length-append}
 use borrow.Author.Tests.{le-leb}
 use Rattle.fields.specs.declared.part.Part.{Part}
-use Rattle.fields.specs.Outcome.{kept}
 use Rattle.elements.specs.declared.element.Element.{Element}
 use Rattle.elements.specs.Element.{item_of}
 use Rattle.kinds.specs.declared.state.Loose.{Loose}
@@ -28,7 +28,7 @@ both-put out at ws more {mid} h same e g =
 
 module _ (s : List ℕ) (full : Bool) (kind : Loose) (group : ℕ) (message : Part) (out : List ℕ) (at : ℕ) where
   -- the numbers of the place and those of the view, one behind the other, are the element's
-  pub message-put : (e : Element) {ws mid after : List ℕ} → viewed_as full kind s message ≡ kept (item_of s e) → at + 208 ≤ length out → length mid ≡ length out
+  pub message-put : (e : Element) {ws mid after : List ℕ} → viewed_as full kind s message ≡ Ok (item_of s e) → at + 208 ≤ length out → length mid ≡ length out
       → mid ≡ filled_at out at (kind_word e ∷ group ∷ message.start ∷ message.len ∷ []) → ws ≡ own_words e → after ≡ filled_at mid (at + 32) ws → MessagePut s full kind group message out at true after
   message-put e {ws} {mid} k room same head own put =
       let small = put_small (record { group = group; message = message; element = e }) in

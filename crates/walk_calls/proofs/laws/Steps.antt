@@ -1,5 +1,6 @@
 -- Laws of the walk's calls: an element's numbers fit its place, what a call puts is what it hands out; a start, and a call by the record that
 -- a slice has or has not.
+use Rattle.std.specs.Prelude.{Ok, Err}
 use Prim.Native.Nat.{ℕ, suc, ◌+◌, ◌*◌, ◌≤◌, ◌<◌}
 use mathlib.Core.Path.{◌≡◌, refl, sym, ap, ◌∙◌, subst}
 use mathlib.Core.List.{List, []}
@@ -11,7 +12,7 @@ use borrow.Author.Tests.{le-leb, lt-leb}
 use Rattle.protobuf.specs.Column.{Column}
 use Rattle.protobuf.specs.declared.refusal.Refusal.{Refusal}
 use Rattle.fields.specs.declared.part.Part.{Part}
-use Rattle.fields.specs.Outcome.{Outcome, kept, refused}
+use Rattle.fields.specs.Outcome.{Outcome}
 use Rattle.elements.specs.declared.element.Element.{Element}
 use Rattle.elements.specs.declared.element.Element.TheVariants as element
 use Rattle.elements.specs.declared.element.NodeInfo.{NodeInfo}
@@ -117,12 +118,12 @@ module _ (s rec slot out : List ℕ) (most : ℕ) where
   abbrev Called : ℕ → List ℕ → Type 0
   Called code left = CalledBy (found_by s) put_words (walk_in s rec) 208 walk.Ended out walk_at walk_words slot (walk_call s rec slot most) code 0 left out
 
-  pub called-over : {b : WireBlock} {code count : ℕ} {left after : List ℕ} → record_in rec ≡ kept b
+  pub called-over : {b : WireBlock} {code count : ℕ} {left after : List ℕ} → record_in rec ≡ Ok b
       → CalledBy (found_by s) put_words (elements_from s b) 208 walk.Ended out walk_at walk_words slot (block_call s b slot most) code count left after
       → CalledBy (found_by s) put_words (walk_in s rec) 208 walk.Ended out walk_at walk_words slot (walk_call s rec slot most) code count left after
   called-over {code = code} {count} {left} {after} e p = subst (λ (x : Outcome WireBlock). OverRecord x code count left after) (sym e) p
 
-  pub called_without : {n : Refusal} {code : ℕ} {left : List ℕ} → 272 ≤ length slot → record_in rec ≡ refused n → RefusedInto slot code left → Called code left
+  pub called_without : {n : Refusal} {code : ℕ} {left : List ℕ} → 272 ≤ length slot → record_in rec ≡ Err n → RefusedInto slot code left → Called code left
   called_without {n} {code} {left} long e p = by (walk_over (walk_at slot)) refl p.by
     where
       by : (b : Bool) → walk_over (walk_at slot) ≡ b → RefusedWhere b slot code left → Called code left

@@ -1,4 +1,5 @@
 -- 1 is given above 32 MiB alone: at the limit and below it, what is answered is the answer of the stages behind, and none of them gives 1.
+use Rattle.std.specs.Prelude.{Err}
 use Prim.Native.Nat.{ℕ, ◌+◌, ◌≤◌}
 use mathlib.Core.Path.{◌≡◌, refl, sym, ◌∙◌, subst}
 use mathlib.Core.List.{List}
@@ -7,7 +8,6 @@ use lib.ListN.{length, take}
 use lib.Dec.{leb}
 use Rattle.protobuf.specs.declared.refusal.Refusal.TheVariants.{BlockTooLong}
 use Rattle.numbers.proofs.laws.Choose.{choose_elim}
-use Rattle.fields.specs.Outcome.{refused}
 use Rattle.fields.specs.View.{view}
 use Rattle.fields.specs.Schema.{primitive_block, string_table}
 use Rattle.wire.specs.Block.{block_fields}
@@ -25,6 +25,6 @@ stages_fair n block bytes =
     λ slots e. fair_onward _ (view string_table (string_bytes bytes (block_fields slots))) (view_fair (Other 1) never_1 _ _)
     λ strings g. choose_elim (FairOutcome (Other 1)) (leb (block + length (tables bytes (block_fields slots))) n) _ _ (λ h. was_kept) (λ h. was_refused (λ k. omega arith))
 
-pub not_too_long : (s : List ℕ) (block : ℕ) → block ≤ length s → block ≤ 33554432 → scanned s block ≡ refused BlockTooLong → ⊥
+pub not_too_long : (s : List ℕ) (block : ℕ) → block ≤ length s → block ≤ 33554432 → scanned s block ≡ Err BlockTooLong → ⊥
 not_too_long s block h g e =
     fair_refusal (subst (FairOutcome (Other 1)) (sym (limits.long_enough s block h g) ∙ e) (stages_fair (length s) block (take block s))) refl

@@ -1,4 +1,5 @@
 -- What a slot keeps of the length-delimited occurrences of its field: the last one's part and, of a repeated field, how many there were.
+use Rattle.std.specs.Prelude.{Ok}
 use Prim.Native.Nat.{ℕ, ◌+◌}
 use mathlib.Core.Path.{◌≡◌, refl, sym, ap, ◌∙◌, subst}
 use mathlib.Core.Bool.{Bool, true, false}
@@ -8,11 +9,11 @@ use lib.ListN.{length}
 use lib.Dec.{eqb}
 use borrow.Author.Tests.{eqb-true, eq-eqb, ne_eqb}
 use Rattle.numbers.specs.Choose.{choose}
-use Rattle.message.specs.Payload.{Payload}
+use Rattle.message.specs.declared.payload.Payload.{Payload}
 use Rattle.protobuf.specs.Stream.{end, more}
 use Rattle.message.specs.Message.{Field, complete, cut, spoilt, Message, message}
 use Rattle.numbers.proofs.laws.Choose.{choose_elim}
-use Rattle.fields.specs.Outcome.{Outcome, kept, each}
+use Rattle.fields.specs.Outcome.{Outcome, each}
 use Rattle.fields.specs.declared.slot.Slot.{Slot}
 use Rattle.fields.specs.Part.{part_by, no_part}
 use Rattle.fields.specs.Parts.{is_part, parts_of}
@@ -70,7 +71,7 @@ pub data Only (k : ℕ) (kind : Kind) : Schema → Type 0 where
 -- a kind that takes length-delimited fields alone, and refuses none
 record Taking (kind : Kind) (new : New) : Type 0 where
   wire : (w : ℕ) → takes kind w ≡ eqb w 2
-  puts : (old : Slot) (p : Payload) → put kind old p ≡ kept (new old p)
+  puts : (old : Slot) (p : Payload) → put kind old p ≡ Ok (new old p)
 
 module _ (k : ℕ) (slots : Slots) (f : Field) where
   abbrev Is : Slot → Slots → Type 0
@@ -123,11 +124,11 @@ module _ (k : ℕ) {kind : Kind} {new : New} (is : Taking kind new) {rows : Sche
       if_onward (λ next. view_from rows next rest) (stored k slots f is c)
       (λ next h. if_so (view_from rows next rest) (all next rest) (λ after g. g ∙ ap (λ (x : Slot). slot_after new k x rest) h))
 
-  view-slot : (s : List ℕ) {slots : Slots} → view rows s ≡ kept slots → slots k ≡ slot_after new k (slot_by 0 no_part) (message s)
+  view-slot : (s : List ℕ) {slots : Slots} → view rows s ≡ Ok slots → slots k ≡ slot_after new k (slot_by 0 no_part) (message s)
   unfolding view
   view-slot s e = if_kept (subst (If λ (after : Slots). after k ≡ slot_after new k (slot_by 0 no_part) (message s)) e (all empty (message s)))
 
-module _ (k : ℕ) {rows : Schema} (s : List ℕ) {slots : Slots} (e : view rows s ≡ kept slots) where
+module _ (k : ℕ) {rows : Schema} (s : List ℕ) {slots : Slots} (e : view rows s ≡ Ok slots) where
   -- the slot of a repeated field counts its occurrences
   pub counted : Only k repeated rows → (slots k).value ≡ length (parts_of k (message s))
   unfolding put

@@ -1,5 +1,6 @@
 -- What holds of each number that a reading of bytes or a view can give, 2 to 10 and 14, holds of what a view refuses. So 1 and 13 are the
 -- scan's own.
+use Rattle.std.specs.Prelude.{Ok, Err}
 use Prim.Native.Nat.{ℕ, zero, suc, ◌+◌, ◌≤◌}
 use mathlib.Core.Path.{◌≡◌, refl}
 use mathlib.Core.Bool.{false}
@@ -10,18 +11,19 @@ use lib.Dec.{leb, ltb, eqb}
 use Rattle.protobuf.specs.declared.refusal.Refusal.{Refusal}
 use Rattle.protobuf.specs.declared.refusal.Refusal.TheVariants.{VarintCut, VarintLong, TagValue, WireType as BadWireType, PastEnd, GroupDepth, Granularity, SecondColumn, SecondInfo, Outside}
 use Rattle.protobuf.specs.Refusal.{number}
-use Rattle.protobuf.specs.Read.{Read, taken, refused, and_then}
+use Rattle.protobuf.specs.Read.{Read, and_then}
 use Rattle.numbers.specs.Choose.{choose}
 use Rattle.protobuf.specs.Varint.{digits, varint}
-use Rattle.protobuf.specs.Tag.{Tag, legal, tag, TagAt, due, tag_at, WireType, wire_type, VARINT, I64, LEN, SGROUP, EGROUP, I32, reserved}
-use Rattle.message.specs.Payload.{Payload, raw_varint, fixed, counted, length_delimited, value_by, closes, field_in, fields_of, group_by, payload}
+use Rattle.protobuf.specs.declared.tag.Tag.{Tag}
+use Rattle.protobuf.specs.Tag.{legal, tag, TagAt, due, tag_at, WireType, wire_type, VARINT, I64, LEN, SGROUP, EGROUP, I32, reserved}
+use Rattle.message.specs.declared.payload.Payload.{Payload}
+use Rattle.message.specs.Payload.{raw_varint, fixed, counted, length_delimited, value_by, closes, field_in, fields_of, group_by, payload}
 use Rattle.protobuf.specs.Stream.{end, more, follow, unrolled}
 use Rattle.message.specs.Message.{Field, MessageEnd, complete, cut, spoilt, Message, message, message_from, with_payload, with_tag, field_at}
 use Rattle.numbers.specs.Signed.{is_int32}
 use Rattle.numbers.proofs.laws.Choose.{choose_elim}
 use Rattle.fields.specs.declared.slot.Slot.{Slot}
 use Rattle.fields.specs.Outcome.{Outcome, onward, each}
-use Rattle.fields.specs.Outcome as outcome
 use Rattle.fields.specs.View.{Kind, scalar, int32, column, submessage, bytes, repeated, Schema, takes, slot_by, Slots, empty, with, column_part, info_part, put, store, view_from, view}
 
 pub record Each (P : Refusal → Type 0) : Type 0 where
@@ -38,8 +40,8 @@ pub record Each (P : Refusal → Type 0) : Type 0 where
 
 -- a reading at a place, a message's end, a message and an outcome that, where they are refused, are refused so
 data Fair (P : Refusal → Type 0) {A : Type 0} : Read A → Type 0 where
-  took : {a : A} {q : ℕ} → Fair P (taken a q)
-  other : {r : Refusal} → P r → Fair P (refused r)
+  took : {a : A} {q : ℕ} → Fair P (Ok (a, q))
+  other : {r : Refusal} → P r → Fair P (Err r)
 
 data FairEnd (P : Refusal → Type 0) : MessageEnd → Type 0 where
   whole : FairEnd P complete
@@ -51,10 +53,10 @@ data FairMessage (P : Refusal → Type 0) : Message → Type 0 where
   goes : {f : Field} {rest : Message} → FairMessage P rest → FairMessage P (more f rest)
 
 pub data FairOutcome (P : Refusal → Type 0) {A : Type 0} : Outcome A → Type 0 where
-  was_kept : {a : A} → FairOutcome P (outcome.kept a)
-  was_refused : {r : Refusal} → P r → FairOutcome P (outcome.refused r)
+  was_kept : {a : A} → FairOutcome P (Ok a)
+  was_refused : {r : Refusal} → P r → FairOutcome P (Err r)
 
-pub fair_refusal : {P : Refusal → Type 0} {A : Type 0} {r : Refusal} → FairOutcome P {A = A} (outcome.refused r) → P r
+pub fair_refusal : {P : Refusal → Type 0} {A : Type 0} {r : Refusal} → FairOutcome P {A = A} (Err r) → P r
 fair_refusal (was_refused h) = h
 
 fair_then : {P : Refusal → Type 0} {A B : Type 0} {r : Read A} (f : A → ℕ → Read B) → Fair P r → ((a : A) (q : ℕ) → Fair P (f a q)) → Fair P (and_then r f)
@@ -76,10 +78,10 @@ unfolding each
 fair_each f was_kept = was_kept
 fair_each f (was_refused h) = was_refused h
 
-pub fair_onward : {P : Refusal → Type 0} {A B : Type 0} (f : A → Outcome B) (x : Outcome A) → FairOutcome P x → ((a : A) → x ≡ outcome.kept a → FairOutcome P (f a)) → FairOutcome P (onward x f)
+pub fair_onward : {P : Refusal → Type 0} {A B : Type 0} (f : A → Outcome B) (x : Outcome A) → FairOutcome P x → ((a : A) → x ≡ Ok a → FairOutcome P (f a)) → FairOutcome P (onward x f)
 unfolding onward
-fair_onward f (outcome.kept a) h g = g a refl
-fair_onward f (outcome.refused r) (was_refused h) g = was_refused h
+fair_onward f (Ok a) h g = g a refl
+fair_onward f (Err r) (was_refused h) g = was_refused h
 
 module _ (P : Refusal → Type 0) (all : Each P) where
   -- ---- readings at a place

@@ -1,5 +1,6 @@
 -- Four times the bytes of a block are room for its tables, so that a buffer of five times the block is never too short (13). A string and a
 -- group take two bytes of the block at least, for tag and length, and eight of a table; and the bytes of a string table are no group's.
+use Rattle.std.specs.Prelude.{Some, None, Ok, Err}
 use Prim.Native.Nat.{ℕ, zero, suc, ◌+◌, ◌*◌, ◌≤◌}
 use mathlib.Core.Path.{◌≡◌, refl, sym, ap, ◌∙◌, subst}
 use mathlib.Core.Bool.{Bool, true, false}
@@ -10,10 +11,12 @@ use lib.Dec.{leb, eqb}
 use borrow.Author.Tests.{eqb-true, leb-true}
 use Rattle.protobuf.specs.declared.refusal.Refusal.{Refusal}
 use Rattle.protobuf.specs.declared.refusal.Refusal.TheVariants.{NoRoom}
-use Rattle.protobuf.specs.Read.{Read, taken, refused, and_then}
+use Rattle.protobuf.specs.Read.{Read, and_then}
 use Rattle.numbers.specs.Choose.{choose}
-use Rattle.protobuf.specs.Tag.{Tag, wire_type, TagAt, done, tagged, untagged, tag_at}
-use Rattle.message.specs.Payload.{Payload, counted, length_delimited, value_by, group_by, payload}
+use Rattle.protobuf.specs.declared.tag.Tag.{Tag}
+use Rattle.protobuf.specs.Tag.{wire_type, TagAt, tag_at}
+use Rattle.message.specs.declared.payload.Payload.{Payload}
+use Rattle.message.specs.Payload.{counted, length_delimited, value_by, group_by, payload}
 use Rattle.protobuf.specs.Stream.{end, more, Item, last, item, follow, unrolled}
 use Rattle.message.specs.Message.{Field, MessageEnd, complete, Message, message, message_from, with_payload, with_tag, field_at}
 use Rattle.numbers.proofs.laws.Choose.{choose_elim}
@@ -25,7 +28,6 @@ use Rattle.fields.specs.declared.part.Part.{Part}
 use Rattle.fields.specs.Part.{part_by, no_part}
 use Rattle.fields.specs.Parts.{parts_of}
 use Rattle.fields.specs.Outcome.{Outcome}
-use Rattle.fields.specs.Outcome as outcome
 use Rattle.fields.specs.View.{view}
 use Rattle.fields.specs.Schema.{primitive_block, string_table}
 use Rattle.wire.specs.declared.primitive_block.BlockFields.{BlockFields}
@@ -40,10 +42,10 @@ use Rattle.wire.proofs.laws.Scan.{block-length, string_bytes-length, string_tabl
 
 -- a payload that was taken from p on has a byte before it, for its length
 data Behind (p : ℕ) : Read Payload → Type 0 where
-  there : {v : Payload} {q : ℕ} → p + 1 + v.len ≤ q → Behind p (taken v q)
-  nothing : {n : Refusal} → Behind p (refused n)
+  there : {v : Payload} {q : ℕ} → p + 1 + v.len ≤ q → Behind p (Ok (v, q))
+  nothing : {n : Refusal} → Behind p (Err n)
 
-behind-taken : {p : ℕ} {v : Payload} {q : ℕ} → Behind p (taken v q) → p + 1 + v.len ≤ q
+behind-taken : {p : ℕ} {v : Payload} {q : ℕ} → Behind p (Ok (v, q)) → p + 1 + v.len ≤ q
 behind-taken (there h) = h
 
 behind-then : {s : List ℕ} {p : ℕ} {r : Read ℕ} (f : ℕ → ℕ → Read Payload) → Reach s (suc p) r → ((n q : ℕ) → suc p ≤ q → Behind p (f n q)) → Behind p (and_then r f)
@@ -70,18 +72,18 @@ weight f = choose (eqb f.tag.wire 2) (2 + f.payload.len) 0
 
 module _ (s : List ℕ) (p : ℕ) {f : Field} {q : ℕ} where
   payload-weight : (t : Tag) (r : ℕ) (x : Read Payload) → p + 1 ≤ r → payload s t r ≡ x → with_payload t x ≡ item f q → f.tag.wire ≡ 2 → p + (2 + f.payload.len) ≤ q
-  payload-weight t r (taken v k) h e g two =
+  payload-weight t r (Ok (v, k)) h e g two =
       let whole : ◌≡◌ {A = Field} (record { tag = t; payload = v }) f = cc in
       let place : k ≡ q = cc in
       let wire = ap (λ (x : Field). x.tag.wire) whole ∙ two in
       let len = ap (λ (x : Field). x.payload.len) whole in
       omega (arith, behind-taken (subst (Behind r) e (payload-behind s t r wire)))
-  payload-weight t r (refused n) h e g two = absurd (let z : ◌≡◌ {A = ℕ} 0 1 = cc in omega arith)
+  payload-weight t r (Err n) h e g two = absurd (let z : ◌≡◌ {A = ℕ} 0 1 = cc in omega arith)
 
   tag-weight : (a : TagAt) → tag_at s p ≡ a → with_tag s a ≡ item f q → f.tag.wire ≡ 2 → p + (2 + f.payload.len) ≤ q
-  tag-weight done e g two = absurd (let z : ◌≡◌ {A = ℕ} 0 1 = cc in omega arith)
-  tag-weight (untagged n) e g two = absurd (let z : ◌≡◌ {A = ℕ} 0 1 = cc in omega arith)
-  tag-weight (tagged t r) e g two =
+  tag-weight (Ok None) e g two = absurd (let z : ◌≡◌ {A = ℕ} 0 1 = cc in omega arith)
+  tag-weight (Err n) e g two = absurd (let z : ◌≡◌ {A = ℕ} 0 1 = cc in omega arith)
+  tag-weight (Ok (Some (t, r))) e g two =
       payload-weight t r (payload s t r) (omega (arith, reached (tag_reach s p) (tagged-tag s p e).1)) refl g two
 
   field-weight : field_at s p ≡ item f q → p + weight f ≤ q
@@ -167,7 +169,7 @@ never_13 = never 13 (λ k h g e. omega arith) (λ e. omega arith)
 
 -- what the scan's contract promises of a buffer of five times the block
 abbrev pub IsNeverShort : List ℕ → ℕ → Outcome WireBlock → Type 0
-IsNeverShort s block x = 5 * block ≤ length s → x ≡ outcome.refused NoRoom → ⊥
+IsNeverShort s block x = 5 * block ≤ length s → x ≡ Err NoRoom → ⊥
 
 pub scan_fair : (s : List ℕ) (block : ℕ) → 5 * block ≤ length s → FairOutcome (Other 13) (scanned s block)
 unfolding scanned fields_stage strings_stage

@@ -1,5 +1,6 @@
 -- Laws of the scan's stages. The tables have eight bytes for each string and group; the string table stands within the block; and writing
 -- the strings' entries and then the groups' behind them writes both.
+use Rattle.std.specs.Prelude.{Ok, Err}
 use Prim.Native.Nat.{ℕ, ◌+◌, ◌-◌, ◌*◌, ◌≤◌, ◌<◌}
 use mathlib.Core.Path.{◌≡◌, refl, sym, ap, ◌∙◌, subst}
 use mathlib.Core.List.{List}
@@ -16,7 +17,7 @@ use Rattle.numbers.proofs.laws.Little.{written-length, written-before, written_t
 use Rattle.numbers.proofs.laws.Choose.{drop-take}
 use Rattle.fields.specs.declared.part.Part.{Part}
 use Rattle.wire.specs.declared.primitive_block.BlockFields.{BlockFields}
-use Rattle.fields.specs.Outcome.{Outcome, kept, refused, onward, each}
+use Rattle.fields.specs.Outcome.{Outcome, onward, each}
 use Rattle.fields.specs.Parts.{parts_of}
 use Rattle.fields.specs.View.{bytes, repeated, Slots, view}
 use Rattle.fields.specs.Schema.{primitive_block, string_table}
@@ -94,12 +95,12 @@ module _ {s : List ℕ} {block : ℕ} {top : BlockFields} {strings : ℕ} (r : S
       length-append string_entries group_entries
       ∙ omega (arith, strings-length, groups-length r.before)
 
-  pub no_room : length s < block + 8 * (strings + top.groups) → tables_stage (length s) block (take block s) top strings ≡ refused NoRoom
+  pub no_room : length s < block + 8 * (strings + top.groups) → tables_stage (length s) block (take block s) top strings ≡ Err NoRoom
   unfolding tables_stage
   no_room h = simp (lt-leb (block + length (tables (take block s) top)) (length s) (omega (arith, total)))
 
   module _ (h : block + 8 * (strings + top.groups) ≤ length s) where
-    pub with-room : tables_stage (length s) block (take block s) top strings ≡ kept (record { block = record_by block top strings; table = tables (take block s) top })
+    pub with-room : tables_stage (length s) block (take block s) top strings ≡ Ok (record { block = record_by block top strings; table = tables (take block s) top })
     unfolding tables_stage
     with-room = simp (le-leb (block + length (tables (take block s) top)) (length s) (omega (arith, total)))
 
@@ -151,13 +152,13 @@ module _ {s : List ℕ} {block : ℕ} {top : BlockFields} (r : FieldsRead s bloc
   lent-strings : lent s top.strings.start top.strings.len ≡ string_bytes (take block s) top
   lent-strings = lent_is s top.strings.start top.strings.len ∙ sym (string_bytes_lem r)
 
-  pub strings-refused : {n : Refusal} → each string_count (view string_table (lent s top.strings.start top.strings.len)) ≡ refused n → strings_stage (length s) block (take block s) top ≡ refused n
+  pub strings-refused : {n : Refusal} → each string_count (view string_table (lent s top.strings.start top.strings.len)) ≡ Err n → strings_stage (length s) block (take block s) top ≡ Err n
   unfolding strings_stage onward
   strings-refused e =
       ap (λ (x : Outcome Slots). onward x λ slots. tables_stage (length s) block (take block s) top (string_count slots))
       (ap (view string_table) (sym lent-strings) ∙ each-refused string_count (view string_table (lent s top.strings.start top.strings.len)) e)
 
-  module _ {n : ℕ} (e : each string_count (view string_table (lent s top.strings.start top.strings.len)) ≡ kept n) where
+  module _ {n : ℕ} (e : each string_count (view string_table (lent s top.strings.start top.strings.len)) ≡ Ok n) where
     pub strings-read : StringsRead s block top n
     strings-read =
         let k = each-kept string_count (view string_table (lent s top.strings.start top.strings.len)) e in
@@ -170,12 +171,12 @@ module _ {s : List ℕ} {block : ℕ} {top : BlockFields} (r : FieldsRead s bloc
         ∙ ap (tables_stage (length s) block (take block s) top) (sym strings-read.is)
 
 module _ (s : List ℕ) (block : ℕ) where
-  pub scan-outside : length s < block → scanned s block ≡ refused Outside
+  pub scan-outside : length s < block → scanned s block ≡ Err Outside
   unfolding scanned
   scan-outside h = simp (lt-leb _ _ h)
 
   module _ (h : block ≤ length s) where
-    pub scan_too_long : limit < block → scanned s block ≡ refused BlockTooLong
+    pub scan_too_long : limit < block → scanned s block ≡ Err BlockTooLong
     unfolding scanned
     scan_too_long g = simp (le-leb _ _ h, lt-leb block limit g)
 
@@ -184,14 +185,14 @@ module _ (s : List ℕ) (block : ℕ) where
       unfolding scanned
       fields = simp (le-leb _ _ h, le-leb block limit g)
 
-      pub fields-refused : {n : Refusal} → each block_fields (view primitive_block (take block s)) ≡ refused n → scanned s block ≡ refused n
+      pub fields-refused : {n : Refusal} → each block_fields (view primitive_block (take block s)) ≡ Err n → scanned s block ≡ Err n
       unfolding fields_stage onward
       fields-refused e =
           fields
           ∙ ap (λ (x : Outcome Slots). onward x λ slots. strings_stage (length s) block (take block s) (block_fields slots))
           (each-refused block_fields (view primitive_block (take block s)) e)
 
-      module _ {top : BlockFields} (e : each block_fields (view primitive_block (take block s)) ≡ kept top) where
+      module _ {top : BlockFields} (e : each block_fields (view primitive_block (take block s)) ≡ Ok top) where
         pub fields_read : FieldsRead s block top
         fields_read =
             let k = each-kept block_fields (view primitive_block (take block s)) e in
@@ -214,7 +215,7 @@ pub record Kept (s : List ℕ) (block : ℕ) (x : Scanned) : Type 0 where
   pub room : block + length (tables (take block s) top) ≤ length s
   pub is : x ≡ record { block = record_by block top strings; table = tables (take block s) top }
 
-pub scan-kept : (s : List ℕ) (block : ℕ) {x : Scanned} → scanned s block ≡ kept x → Kept s block x
+pub scan-kept : (s : List ℕ) (block : ℕ) {x : Scanned} → scanned s block ≡ Ok x → Kept s block x
 unfolding scanned fields_stage strings_stage tables_stage
 scan-kept s block e =
     let inside = chosen (leb block (length s)) _ _ e in

@@ -1,39 +1,36 @@
 -- `check_elements` has passed the messages of its tag up to its place.
-use mathlib.Core.Path.{sym, ◌∙◌}
+use mathlib.Core.Path.{sym, ap, ◌∙◌}
 use native.Mathlib.Omega.{arith}
-use Rattle.protobuf.proofs.laws.Read.{says}
-use Rattle.message.specs.Answers.{field_of}
-use Rattle.passes.specs.Checked.{check_of}
+use Rattle.protobuf.proofs.laws.Read.{handed_on}
 use Rattle.accept.proofs.laws.Group.{passing_begins, passing-ends, passing-other, passing-refused, passing-on, passing-within, passing-falls}
-use Rattle.fields.proofs.laws.Parts.{no_field}
+use Rattle.fields.proofs.laws.Parts.{a_field, no_field}
 use Rattle.accept.proofs.group_check.check_elements.Goals as goal
 
-pub loop-t-init : goal.loop-t-init
-loop-t-init c = passing_begins _ _ _ c.requires
+pub loop-field-init : goal.loop-field-init
+loop-field-init c = passing_begins _ _ _ c.requires
 
-pub returns-in_default : goal.returns-in_default
-returns-in_default c = sym (passing-ends c.loop-t.invariant (sym c.next_field-f.ensures ∙ (no_field c.next_field-f.result c.in_default.not-Read).1))
+pub returns : goal.returns
+returns c = sym (passing-ends c.loop-field.invariant (no_field c.next_field.result c.unwrap_or.ensures c.next_field.ensures c.in_default.is).1)
 
 pub overflow_add-end : goal.overflow_add-end
-overflow_add-end c = omega (arith, passing-within c.loop-t.invariant _ (says field_of c.next_field-f.ensures c.in-Read.is))
-
-pub slice_bounds-check_element-count : goal.slice_bounds-check_element-count
-slice_bounds-check_element-count c = omega arith
+overflow_add-end c = omega (arith, passing-within c.loop-field.invariant _ (a_field c.next_field.result c.unwrap_or.ensures c.next_field.ensures c.in-Some.is))
 
 pub slice_bounds-check_element-end : goal.slice_bounds-check_element-end
-slice_bounds-check_element-end c = omega (arith, passing-within c.loop-t.invariant _ (says field_of c.next_field-f.ensures c.in-Read.is))
+slice_bounds-check_element-end c = omega (arith, passing-within c.loop-field.invariant _ (a_field c.next_field.result c.unwrap_or.ensures c.next_field.ensures c.in-Some.is))
 
-pub returns-in-Refused : goal.returns-in-Refused
-returns-in-Refused c = sym (passing-refused c.loop-t.invariant _ (says field_of c.next_field-f.ensures c.in-Read.is) c.if-t-tag.true (says check_of c.check_element-c.ensures c.in-Refused.is))
+pub returns-in_err-check_element : goal.returns-in_err-check_element
+returns-in_err-check_element c =
+    handed_on _ c.from_residual.ensures
+    ∙ sym (passing-refused c.loop-field.invariant _ (a_field c.next_field.result c.unwrap_or.ensures c.next_field.ensures c.in-Some.is) c.if-field-tag.true (sym c.check_element.ensures ∙ c.in_err-check_element.was))
 
-pub loop-t-smaller-in-Accepted : goal.loop-t-smaller-in-Accepted
-loop-t-smaller-in-Accepted c = passing-falls c.loop-t.invariant _ (says field_of c.next_field-f.ensures c.in-Read.is)
+pub loop-field-smaller-in_ok-check_element : goal.loop-field-smaller-in_ok-check_element
+loop-field-smaller-in_ok-check_element c = passing-falls c.loop-field.invariant _ (a_field c.next_field.result c.unwrap_or.ensures c.next_field.ensures c.in-Some.is)
 
-pub loop-t-preserved-in-Accepted : goal.loop-t-preserved-in-Accepted
-loop-t-preserved-in-Accepted c = passing-on c.loop-t.invariant _ (says field_of c.next_field-f.ensures c.in-Read.is) c.if-t-tag.true (says check_of c.check_element-c.ensures c.in-Accepted.is)
+pub loop-field-preserved-in_ok-check_element : goal.loop-field-preserved-in_ok-check_element
+loop-field-preserved-in_ok-check_element c = passing-on c.loop-field.invariant _ (a_field c.next_field.result c.unwrap_or.ensures c.next_field.ensures c.in-Some.is) c.if-field-tag.true (sym c.check_element.ensures ∙ c.in_ok-check_element.was)
 
-pub loop-t-smaller : goal.loop-t-smaller
-loop-t-smaller c = passing-falls c.loop-t.invariant _ (says field_of c.next_field-f.ensures c.in-Read.is)
+pub loop-field-smaller : goal.loop-field-smaller
+loop-field-smaller c = passing-falls c.loop-field.invariant _ (a_field c.next_field.result c.unwrap_or.ensures c.next_field.ensures c.in-Some.is)
 
-pub loop-t-preserved : goal.loop-t-preserved
-loop-t-preserved c = passing-other c.loop-t.invariant _ (says field_of c.next_field-f.ensures c.in-Read.is) c.if-t-tag.false
+pub loop-field-preserved : goal.loop-field-preserved
+loop-field-preserved c = passing-other c.loop-field.invariant _ (a_field c.next_field.result c.unwrap_or.ensures c.next_field.ensures c.in-Some.is) c.if-field-tag.false

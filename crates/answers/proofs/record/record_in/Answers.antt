@@ -1,10 +1,9 @@
 -- `record_in` makes the tests of `record_in` in its order, and reads the nine numbers where all of them hold.
-use mathlib.Core.Path.{ap, ◌∙◌}
+use Rattle.std.specs.Prelude.{Ok}
+use mathlib.Core.Path.{sym, ap, ◌∙◌}
 use mir.Syntax.{w32, w64}
 use Rattle.numbers.specs.Signed.{twos}
 use Rattle.numbers.proofs.laws.Machine.{returned}
-use Rattle.fields.specs.Outcome.{kept}
-use Rattle.fields.proofs.laws.Part.{refuted, confirmed}
 use Rattle.answers.proofs.laws.Record.{record-short, no-granularity, no-dategranularity, record-kept}
 use Rattle.answers.proofs.record.record_in.Goals as goal
 
@@ -12,17 +11,17 @@ pub returns-then-s-lt72 : goal.returns-then-s-lt72
 returns-then-s-lt72 c = record-short _ c.if-s-lt72.true
 
 pub returns-then-not-is_int32 : goal.returns-then-not-is_int32
-returns-then-not-is_int32 c = no-granularity _ c.if-s-lt72.false c.read_u64-granularity.ensures c.read_u64-dategranularity.ensures (refuted c.is_int32.ensures c.if-not-is_int32.true-raw)
+returns-then-not-is_int32 c = no-granularity _ c.if-s-lt72.false c.read_u64-granularity.ensures c.read_u64-dategranularity.ensures (sym c.is_int32.ensures ∙ c.if-not-is_int32.true)
 
 pub returns-then-not-is_int32-2 : goal.returns-then-not-is_int32-2
 returns-then-not-is_int32-2 c = no-dategranularity _ c.if-s-lt72.false c.read_u64-granularity.ensures c.read_u64-dategranularity.ensures
-    (confirmed c.is_int32.ensures c.if-not-is_int32.false-raw)
-    (refuted c.is_int32-2.ensures c.if-not-is_int32-2.true-raw)
+    (sym c.is_int32.ensures ∙ c.if-not-is_int32.false)
+    (sym c.is_int32-2.ensures ∙ c.if-not-is_int32-2.true)
 
 pub returns : goal.returns
 returns c = let eg = c.read_u64-granularity.ensures in
     let ed = c.read_u64-dategranularity.ensures in
-    ap kept
+    ap Ok
     (λ i.
     record {
       block = c.read_u64.ensures i;
@@ -35,4 +34,4 @@ returns c = let eg = c.read_u64-granularity.ensures in
       latoffset = returned w64 c.int64.type_inv (c.int64.ensures ∙ ap (twos 64) c.read_u64-6.ensures) i;
       lonoffset = returned w64 c.int64-2.type_inv (c.int64-2.ensures ∙ ap (twos 64) c.read_u64-7.ensures) i;
     })
-    ∙ record-kept _ c.if-s-lt72.false eg ed (confirmed c.is_int32.ensures c.if-not-is_int32.false-raw) (confirmed c.is_int32-2.ensures c.if-not-is_int32-2.false-raw)
+    ∙ record-kept _ c.if-s-lt72.false eg ed (sym c.is_int32.ensures ∙ c.if-not-is_int32.false) (sym c.is_int32-2.ensures ∙ c.if-not-is_int32-2.false)

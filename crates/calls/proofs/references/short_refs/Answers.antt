@@ -8,7 +8,7 @@ use mir.Syntax.{w64}
 use mir.Val.{to_z, of_z}
 use Rattle.numbers.specs.Signed.{zigzag, wrapping_add}
 use Rattle.numbers.proofs.laws.Machine.{returned}
-use Rattle.columns.proofs.laws.Zip.{typed, summed}
+use Rattle.columns.proofs.laws.Zip.{mapped-more, summed-more}
 use lib.IntN.{ℤ}
 use Rattle.columns.specs.declared.sums.Sum64.{Sum64}
 use Rattle.elements.specs.References.{refs_from}
@@ -33,7 +33,7 @@ loop-count-preserved c =
       c.put_at.auto.out ∙ c.loop-count.invariant.0,
       run_on ref_item (refs_from _) 8 c.loop-count.invariant.1 (λ x. lit≤ tt) c.loop-count-test.true
           (puts-item ref_item (refs_from _) (to_z w64 (of_z w64 c.wrapping_add_i64-sum.result))
-          (summed 64 _ (typed (zigzag 64) (word_tells _ _ c.if-word-eq0.false c.wide_value-word.ensures) refl) summed_word).so
+          (sym (summed-more 64 _ (mapped-more (zigzag 64) (word_tells _ _ c.if-word-eq0.false c.wide_value-word.ensures) refl) summed_word))
           (c.put_at.ensures ∙ ap (λ (n : ℕ). filled_at c.loop-count.out (8 * c.loop-count.count) (n ∷ [])) c.bits_i64.ensures)),
     )
 

@@ -4,8 +4,8 @@ use Rattle.columns.proofs.laws.InStep.{size}
 use Rattle.columns.proofs.laws.Count.{Counting}
 use Rattle.columns.proofs.counts.count_values.Given as goal
 
-abbrev pub invariant-loop-refusal : goal.invariant-loop-refusal
-invariant-loop-refusal l = Counting l.s l.initial.at l.at l.n
+abbrev pub invariant-loop-next : goal.invariant-loop-next
+invariant-loop-next l = Counting l.s l.initial.at l.at l.n
 
-abbrev pub decreases-loop-refusal : goal.decreases-loop-refusal
-decreases-loop-refusal l = size (ahead l.s l.at)
+abbrev pub decreases-loop-next : goal.decreases-loop-next
+decreases-loop-next l = size (ahead l.s l.at)

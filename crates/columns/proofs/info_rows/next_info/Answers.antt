@@ -1,51 +1,69 @@
 -- `next_info` is `next_info`: each column that has a value leads on to the next, and the last three are `next_user`'s. A column that is read
 -- stays inside the bytes.
-use mathlib.Core.Path.{refl, sym, ◌∙◌}
+use Rattle.std.specs.Prelude.{Ok}
+use mathlib.Core.Path.{refl, sym, ap, ◌∙◌}
+use Rattle.protobuf.proofs.laws.Read.{says, handed_on}
+use Rattle.columns.specs.Zip.{sum64_said}
 use Rattle.columns.proofs.laws.InStep.{stepped}
-use Rattle.columns.proofs.laws.Inside.{each-inside, version-read, timestamp-read, changeset-read, behind-inside}
-use Rattle.columns.proofs.laws.Zip.{told_is, mapped_end, mapped-more, read-ended, read-cut, read_more}
+use Rattle.columns.proofs.laws.Inside.{inside_at, each-inside, version-read, timestamp-read, changeset-read, behind-inside}
+use Rattle.columns.proofs.laws.Zip.{mapped_end, mapped-more, read-ended, read-cut, read_more}
+use Rattle.columns.proofs.info_rows.next_info.Goals.{In-Some, In-Some-2}
 use Rattle.columns.proofs.info_rows.next_info.Goals as goal
 
-pub returns-in-Refused : goal.returns-in-Refused
-returns-in-Refused c = record { says = sym (read-cut _ _ (mapped_end _ (stepped _ _ c.next_value-v.ensures c.in-Refused.is))); inside = λ h. refl }
+pub returns-in_err-version-clause-says : goal.returns-in_err-version-clause-says
+returns-in_err-version-clause-says c = rw (handed_on _ c.from_residual.ensures) (sym (read-cut _ _ (mapped_end _ (stepped _ _ c.next_value.ensures c.in_err-version.was))))
 
-pub returns-in-Ended : goal.returns-in-Ended
-returns-in-Ended c = record { says = sym (read-ended _ _ (mapped_end _ (stepped _ _ c.next_value-v.ensures c.in-Ended.is))); inside = λ h. h }
+pub returns-in_default-clause-says : goal.returns-in_default-clause-says
+returns-in_default-clause-says c = sym (read-ended _ _ (mapped_end _ (stepped _ _ c.next_value.ensures (c.in_ok-version.was ∙ ap Ok c.in_default.is))))
 
-pub returns-in-Refused-second : goal.returns-in-Refused-second
-returns-in-Refused-second c = record { says = sym (read_more _ _ (mapped-more _ (stepped _ _ c.next_value-v.ensures c.in-Value.is)) ∙ read-cut _ _ (told_is (record { so = c.next_sum64-t.ensures.says }) c.in-Refused-second.is)); inside = λ h. refl }
+pub returns-in_err-timestamp-clause-says : goal.returns-in_err-timestamp-clause-says
+returns-in_err-timestamp-clause-says c =
+    let version = c.in_ok-version.was ∙ ap Ok c.in-Some.is in
+    rw (handed_on _ c.from_residual-in_err-timestamp.ensures)
+    (sym (read_more _ _ (mapped-more _ (stepped _ _ c.next_value.ensures version) refl) ∙ read-cut _ _ (says (sum64_said _) c.next_sum64.ensures.says c.in_err-timestamp.was)))
 
-pub returns-in-Ended-second : goal.returns-in-Ended-second
-returns-in-Ended-second c =
-    let g = c.args in
-    record { says = sym (read_more _ _ (mapped-more _ (stepped _ _ c.next_value-v.ensures c.in-Value.is)) ∙ read-ended _ _ (told_is (record { so = c.next_sum64-t.ensures.says }) c.in-Ended-second.is)); inside = λ h. (version-read (each-inside g.s.now g.columns h) (behind-inside _ _ c.next_value-v.ensures c.in-Value.is)).so }
-
-pub returns-in-Refused-third : goal.returns-in-Refused-third
-returns-in-Refused-third c =
+pub returns-in_default-2 : goal.returns-in_default-2
+returns-in_default-2 c =
+    let a = c.args in
+    let version = c.in_ok-version.was ∙ ap Ok c.in-Some.is in
+    let timestamp = c.in_ok-timestamp.was ∙ ap Ok c.in_default-2.is in
     record {
-      says = sym (read_more _ _ (mapped-more _ (stepped _ _ c.next_value-v.ensures c.in-Value.is))
-          ∙ read_more _ _ (told_is (record { so = c.next_sum64-t.ensures.says }) c.in-Value-second.is)
-          ∙ read-cut _ _ (told_is (record { so = c.next_sum64-c.ensures.says }) c.in-Refused-third.is));
-      inside = λ h. refl;
+      says = sym (read_more _ _ (mapped-more _ (stepped _ _ c.next_value.ensures version) refl) ∙ read-ended _ _ (says (sum64_said _) c.next_sum64.ensures.says timestamp));
+      inside = λ h. (version-read (each-inside a.s.now a.columns h) (behind-inside _ _ c.next_value.ensures version)).so;
     }
 
-pub returns-in-Ended-third : goal.returns-in-Ended-third
-returns-in-Ended-third c =
-    let g = c.args in
+pub returns-in_err-changeset-clause-says : goal.returns-in_err-changeset-clause-says
+returns-in_err-changeset-clause-says c =
+    let version = c.in_ok-version.was ∙ ap Ok c.in-Some.is in
+    let timestamp = c.in_ok-timestamp.was ∙ ap Ok c.in-Some-2.is in
+    rw (handed_on _ c.from_residual-in_err-changeset.ensures)
+    (sym (read_more _ _ (mapped-more _ (stepped _ _ c.next_value.ensures version) refl)
+    ∙ read_more _ _ (says (sum64_said _) c.next_sum64.ensures.says timestamp)
+    ∙ read-cut _ _ (says (sum64_said _) c.next_sum64-2.ensures.says c.in_err-changeset.was)))
+
+pub returns-in_default-3 : goal.returns-in_default-3
+returns-in_default-3 c =
+    let a = c.args in
+    let version = c.in_ok-version.was ∙ ap Ok c.in-Some.is in
+    let timestamp = c.in_ok-timestamp.was ∙ ap Ok c.in-Some-2.is in
+    let changeset = c.in_ok-changeset.was ∙ ap Ok c.in_default-3.is in
     record {
-      says = sym (read_more _ _ (mapped-more _ (stepped _ _ c.next_value-v.ensures c.in-Value.is))
-          ∙ read_more _ _ (told_is (record { so = c.next_sum64-t.ensures.says }) c.in-Value-second.is)
-          ∙ read-ended _ _ (told_is (record { so = c.next_sum64-c.ensures.says }) c.in-Ended-third.is));
-      inside = λ h. (timestamp-read (version-read (each-inside g.s.now g.columns h) (behind-inside _ _ c.next_value-v.ensures c.in-Value.is)) c.next_sum64-t.ensures.inside).so;
+      says = sym (read_more _ _ (mapped-more _ (stepped _ _ c.next_value.ensures version) refl)
+          ∙ read_more _ _ (says (sum64_said _) c.next_sum64.ensures.says timestamp)
+          ∙ read-ended _ _ (says (sum64_said _) c.next_sum64-2.ensures.says changeset));
+      inside = λ h. (timestamp-read (version-read (each-inside a.s.now a.columns h) (behind-inside _ _ c.next_value.ensures version)) (inside_at _ c.next_sum64.ensures.inside timestamp)).so;
     }
 
-pub returns-in-Value-third : goal.returns-in-Value-third
-returns-in-Value-third c =
-    let g = c.args in
+pub returns : goal.returns
+returns c =
+    let a = c.args in
+    let version = c.in_ok-version.was ∙ ap Ok c.in-Some.is in
+    let timestamp = c.in_ok-timestamp.was ∙ ap Ok c.in-Some-2.is in
+    let changeset = c.in_ok-changeset.was ∙ ap Ok c.in-Some-3.is in
     record {
       says = c.next_user.ensures.says
-          ∙ sym (read_more _ _ (mapped-more _ (stepped _ _ c.next_value-v.ensures c.in-Value.is))
-          ∙ read_more _ _ (told_is (record { so = c.next_sum64-t.ensures.says }) c.in-Value-second.is)
-          ∙ read_more _ _ (told_is (record { so = c.next_sum64-c.ensures.says }) c.in-Value-third.is));
-      inside = λ h. c.next_user.ensures.inside (changeset-read (timestamp-read (version-read (each-inside g.s.now g.columns h) (behind-inside _ _ c.next_value-v.ensures c.in-Value.is)) c.next_sum64-t.ensures.inside) c.next_sum64-c.ensures.inside).so;
+          ∙ sym (read_more _ _ (mapped-more _ (stepped _ _ c.next_value.ensures version) refl)
+          ∙ read_more _ _ (says (sum64_said _) c.next_sum64.ensures.says timestamp)
+          ∙ read_more _ _ (says (sum64_said _) c.next_sum64-2.ensures.says changeset));
+      inside = λ h. c.next_user.ensures.inside (changeset-read (timestamp-read (version-read (each-inside a.s.now a.columns h) (behind-inside _ _ c.next_value.ensures version)) (inside_at _ c.next_sum64.ensures.inside timestamp)) (inside_at _ c.next_sum64-2.ensures.inside changeset)).so;
     }

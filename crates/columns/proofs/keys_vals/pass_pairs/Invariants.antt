@@ -9,8 +9,8 @@ use Rattle.columns.specs.Inside.{column_inside}
 use Rattle.columns.proofs.laws.InStep.{size}
 use Rattle.columns.proofs.keys_vals.pass_pairs.Given as goal
 
-abbrev pub invariant-loop-n : goal.invariant-loop-n
-invariant-loop-n l = (each rest_of (take_pairs (ahead l.s l.initial.at)) ≡ each rest_of (take_pairs (ahead l.s l.at))) × (column_inside l.s l.initial.at ≡ true → column_inside l.s l.at ≡ true)
+abbrev pub invariant-loop-next : goal.invariant-loop-next
+invariant-loop-next l = (each rest_of (take_pairs (ahead l.s l.initial.at)) ≡ each rest_of (take_pairs (ahead l.s l.at))) × (column_inside l.s l.initial.at ≡ true → column_inside l.s l.at ≡ true)
 
-abbrev pub decreases-loop-n : goal.decreases-loop-n
-decreases-loop-n l = size (ahead l.s l.at)
+abbrev pub decreases-loop-next : goal.decreases-loop-next
+decreases-loop-next l = size (ahead l.s l.at)

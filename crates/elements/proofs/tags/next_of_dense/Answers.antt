@@ -1,13 +1,18 @@
 -- `next_of_dense` hands out what a step of keys_vals tells.
-use mathlib.Core.Path.{refl}
+use Rattle.std.specs.Prelude.{Ok}
+use mathlib.Core.Path.{◌∙◌}
 use Rattle.elements.proofs.laws.Tags.{dense-told}
 use Rattle.elements.proofs.tags.next_of_dense.Goals as goal
 
-pub returns-in-Refused : goal.returns-in-Refused
-returns-in-Refused c = record { says = dense-told _ _ c.next_dense_tag-r.ensures.says c.in-Refused.is; behind = refl }
+pub returns-in-Err-clause-says : goal.returns-in-Err-clause-says
+returns-in-Err-clause-says c = dense-told _ _ c.next_dense_tag.ensures.says c.in-Err.is
 
-pub returns-in-Done : goal.returns-in-Done
-returns-in-Done c = record { says = dense-told _ _ c.next_dense_tag-r.ensures.says c.in-Done.is; behind = refl }
+pub returns-in-Ok-None-default-clause-says : goal.returns-in-Ok-None-default-clause-says
+returns-in-Ok-None-default-clause-says c =
+    let a = c.in-Ok-None-default in
+    dense-told _ _ c.next_dense_tag.ensures.says (a.is ∙ λ i. Ok (a.field-0-0-is i, a.field-0-1))
 
-pub returns-in-Pair : goal.returns-in-Pair
-returns-in-Pair c = record { says = dense-told _ _ c.next_dense_tag-r.ensures.says c.in-Pair.is; behind = refl }
+pub returns-in-Ok-Some-default-clause-says : goal.returns-in-Ok-Some-default-clause-says
+returns-in-Ok-Some-default-clause-says c =
+    let a = c.in-Ok-Some-default in
+    dense-told _ _ c.next_dense_tag.ensures.says (a.is ∙ λ i. Ok (a.field-0-0-is i, a.next))

@@ -4,8 +4,8 @@ use lib.ListN.{length}
 use Rattle.groups.proofs.laws.Group.{Passing}
 use Rattle.groups.proofs.group.dense_part.Given as goal
 
-abbrev pub invariant-loop-n : goal.invariant-loop-n
-invariant-loop-n l = Passing l.s l.found l.at
+abbrev pub invariant-loop-refusal : goal.invariant-loop-refusal
+invariant-loop-refusal l = Passing l.s l.found l.at
 
-abbrev pub decreases-loop-n : goal.decreases-loop-n
-decreases-loop-n l = length l.s - l.at
+abbrev pub decreases-loop-refusal : goal.decreases-loop-refusal
+decreases-loop-refusal l = length l.s - l.at

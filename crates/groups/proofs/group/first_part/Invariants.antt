@@ -4,8 +4,8 @@ use lib.ListN.{length}
 use Rattle.groups.proofs.laws.Group.{Seeking}
 use Rattle.groups.proofs.group.first_part.Given as goal
 
-abbrev pub invariant-loop-tag : goal.invariant-loop-tag
-invariant-loop-tag l = Seeking l.s l.field l.from l.at
+abbrev pub invariant-loop-found : goal.invariant-loop-found
+invariant-loop-found l = Seeking l.s l.field l.from l.at
 
-abbrev pub decreases-loop-tag : goal.decreases-loop-tag
-decreases-loop-tag l = length l.s - l.at
+abbrev pub decreases-loop-found : goal.decreases-loop-found
+decreases-loop-found l = length l.s - l.at

@@ -11,12 +11,12 @@ returns-then-number-ne12 c =
     let a = c.args in
     refused-at_once a.refusal (infos_ahead a.buffer.now a.infos) (λ e. c.if-number-ne12.true (c.number.ensures ∙ e))
 
-pub returns-in-Refused : goal.returns-in-Refused
-returns-in-Refused c =
+pub returns-in-Err : goal.returns-in-Err
+returns-in-Err c =
     let a = c.args in
-    refused-stopped a.refusal (infos_ahead a.buffer.now a.infos) (sym c.number.ensures ∙ c.if-number-ne12.false) (says (row_read _) c.read_info-i.ensures.says c.in-Refused.is)
+    refused-stopped a.refusal (infos_ahead a.buffer.now a.infos) (sym c.number.ensures ∙ c.if-number-ne12.false) (says (row_read _) c.read_info.ensures.says c.in-Err.is)
 
-pub returns-in-Read : goal.returns-in-Read
-returns-in-Read c =
+pub returns-in-Ok : goal.returns-in-Ok
+returns-in-Ok c =
     let a = c.args in
-    refused-behind a.refusal (infos_ahead a.buffer.now a.infos) (sym c.number.ensures ∙ c.if-number-ne12.false) (says (row_read _) c.read_info-i.ensures.says c.in-Read.is)
+    refused-behind a.refusal (infos_ahead a.buffer.now a.infos) (sym c.number.ensures ∙ c.if-number-ne12.false) (says (row_read _) c.read_info.ensures.says c.in-Ok.is)

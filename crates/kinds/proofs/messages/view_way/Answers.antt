@@ -1,22 +1,26 @@
 -- `view_way` hands out what the view keeps, with the Info's part that the walk shows.
+use Rattle.protobuf.proofs.laws.Read.{handed_on}
+use Rattle.std.specs.Prelude.{Ok}
 use mathlib.Core.Path.{sym, ap, ◌∙◌}
-use Rattle.protobuf.proofs.laws.Read.{says}
 use Rattle.fields.specs.declared.part.Part.{Part}
-use Rattle.fields.specs.Outcome.{kept}
-use Rattle.views.specs.Way.{parsed_way, way_at}
+use Rattle.fields.specs.Outcome.{each}
+use Rattle.views.specs.Way.{way_at}
 use Rattle.elements.specs.Element.{way_item}
 use Rattle.kinds.specs.Loose.{way_in}
 use Rattle.kinds.proofs.laws.Viewed.{shown-kept, shown-refused}
 use Rattle.kinds.proofs.messages.view_way.Goals as goal
 
-pub returns-in-Refused : goal.returns-in-Refused
-returns-in-Refused c =
+pub returns-in_err-v : goal.returns-in_err-v
+unfolding each
+returns-in_err-v c =
     let a = c.args in
-    sym (shown-refused (way_at a.message.start) (way_in a.full) _ (says parsed_way c.parse-p.ensures c.in-Refused.is))
+    rw (handed_on c.from_residual.result c.from_residual.ensures)
+    (sym (shown-refused (way_at a.message.start) (way_in a.full) _ (sym c.parse.ensures ∙ c.in_err-v.was)))
 
-pub returns-in-Parsed : goal.returns-in-Parsed
-returns-in-Parsed c =
+pub returns : goal.returns
+unfolding each
+returns c =
     let a = c.args in
-    let v = c.in-Parsed.v in
-    ap (λ (p : Part). kept (way_item (record { id = v.id; keys = v.keys; vals = v.vals; info = p; refs = v.refs; lat = v.lat; lon = v.lon; pins = v.pins }))) c.info_in-info.ensures
-    ∙ sym (shown-kept (way_at a.message.start) (way_in a.full) _ (says parsed_way c.parse-p.ensures c.in-Parsed.is))
+    let v = c.in_ok-v.v in
+    ap (λ (p : Part). Ok (way_item (record { id = v.id; keys = v.keys; vals = v.vals; info = p; refs = v.refs; lat = v.lat; lon = v.lon; pins = v.pins }))) c.info_in-v.ensures
+    ∙ sym (shown-kept (way_at a.message.start) (way_in a.full) _ (sym c.parse.ensures ∙ c.in_ok-v.was))

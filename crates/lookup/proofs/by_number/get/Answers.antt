@@ -1,24 +1,23 @@
 -- `get` makes the tests of `get_at` by differences, and reads the entry where its bytes are inside.
 use native.Mathlib.Omega.{arith}
 use mathlib.Core.Path.{sym, ◌∙◌}
-use Rattle.fields.proofs.laws.Part.{refuted, confirmed}
 use Rattle.lookup.proofs.laws.Lookup.{get_past-count, get_past-table, get_text, get_refused, entry-inside, entry-outside}
 use Rattle.lookup.proofs.laws.Scanned.{get_clauses}
 use Rattle.lookup.proofs.by_number.get.Goals as goal
 
 pub returns-then-not-table_fits : goal.returns-then-not-table_fits
 returns-then-not-table_fits c =
-    let past = entry-outside c.args.buffer.now c.args.block c.args.index (omega arith) (refuted c.table_fits.ensures c.if-not-table_fits.true-raw) in
+    let past = entry-outside c.args.buffer.now c.args.block c.args.index (omega arith) (sym c.table_fits.ensures ∙ c.if-not-table_fits.true) in
     let said = get_clauses _ _ _ (get_past-table _ _ _ past) in record { answer = said.0; scanned = said.1 }
 
 pub returns-then-part_fits : goal.returns-then-part_fits
 returns-then-part_fits c =
-    let room = entry-inside c.args.buffer.now c.args.block c.args.index (omega arith) (confirmed c.table_fits.ensures c.if-not-table_fits.false-raw) in
+    let room = entry-inside c.args.buffer.now c.args.block c.args.index (omega arith) (sym c.table_fits.ensures ∙ c.if-not-table_fits.false) in
     let said = get_clauses _ _ _ (get_text _ _ _ (omega arith) room c.entry_at-part.ensures (sym c.part_fits.ensures ∙ c.if-part_fits.true)) in record { answer = said.0; scanned = said.1 }
 
 pub returns-else-part_fits : goal.returns-else-part_fits
 returns-else-part_fits c =
-    let room = entry-inside c.args.buffer.now c.args.block c.args.index (omega arith) (confirmed c.table_fits.ensures c.if-not-table_fits.false-raw) in
+    let room = entry-inside c.args.buffer.now c.args.block c.args.index (omega arith) (sym c.table_fits.ensures ∙ c.if-not-table_fits.false) in
     let said = get_clauses _ _ _ (get_refused _ _ _ (omega arith) room c.entry_at-part.ensures (sym c.part_fits.ensures ∙ c.if-part_fits.false)) in record { answer = said.0; scanned = said.1 }
 
 pub returns-then-block-index : goal.returns-then-block-index
@@ -26,16 +25,3 @@ returns-then-block-index c = let said = get_clauses _ _ _ (get_past-count _ _ _ 
 
 pub returns-then-n-lt8 : goal.returns-then-n-lt8
 returns-then-n-lt8 c = let said = get_clauses _ _ _ (get_past-table _ _ _ (omega arith)) in record { answer = said.0; scanned = said.1 }
-
-pub overflow_mul-index : goal.overflow_mul-index
-overflow_mul-index c =
-    let room = entry-inside c.args.buffer.now c.args.block c.args.index (omega arith) (confirmed c.table_fits.ensures c.if-not-table_fits.false-raw) in
-    omega (arith, room)
-
-pub overflow_add-table : goal.overflow_add-table
-overflow_add-table c =
-    let room = entry-inside c.args.buffer.now c.args.block c.args.index (omega arith) (confirmed c.table_fits.ensures c.if-not-table_fits.false-raw) in
-    omega (arith, room)
-
-pub entry_at-part-requires : goal.entry_at-part-requires
-entry_at-part-requires c = entry-inside c.args.buffer.now c.args.block c.args.index (omega arith) (confirmed c.table_fits.ensures c.if-not-table_fits.false-raw)

@@ -1,9 +1,9 @@
 -- `read_payload` parts the groups from the rest, as `payload` does; each part is its own function's promise.
-use mathlib.Core.Path.{sym, ◌∙◌}
-use Rattle.message.specs.Answers.{skip_of}
-use Rattle.protobuf.proofs.laws.Read.{says, goes_on, handed-up, reached}
-use Rattle.message.proofs.laws.Group.{group_reach, payload-outside, payload-single, payload-group}
 use native.Mathlib.Omega.{arith}
+use mathlib.Core.Path.{sym, ap, ◌∙◌}
+use Rattle.message.specs.Answers.{past}
+use Rattle.protobuf.proofs.laws.Read.{says, handed_on, goes_on, handed-up, reached}
+use Rattle.message.proofs.laws.Group.{group_reach, payload-outside, payload-single, payload-group}
 use Rattle.message.proofs.payload.read_payload.Goals as goal
 
 pub returns-then-s-at : goal.returns-then-s-at
@@ -12,11 +12,13 @@ returns-then-s-at c = sym (payload-outside _ _ _ c.if-s-at.true)
 pub returns-then-wire-ne-SGROUP : goal.returns-then-wire-ne-SGROUP
 returns-then-wire-ne-SGROUP c = c.read_single.ensures ∙ sym (payload-single _ _ _ _ c.if-s-at.false c.if-wire-ne-SGROUP.true)
 
-pub overflow_sub-result : goal.overflow_sub-result
-overflow_sub-result c = omega (arith, reached (group_reach 16 _ _ _) (says skip_of c.skip_group-g.ensures c.in-Past.is))
+pub returns-in_err-next : goal.returns-in_err-next
+returns-in_err-next c =
+    handed_on _ c.from_residual.ensures
+    ∙ sym (payload-group _ _ _ _ c.if-s-at.false c.if-wire-ne-SGROUP.false ∙ handed-up _ (says past c.skip_group.ensures c.in_err-next.was))
 
-pub returns-in-Refused : goal.returns-in-Refused
-returns-in-Refused c = sym (payload-group _ _ _ _ c.if-s-at.false c.if-wire-ne-SGROUP.false ∙ handed-up _ (says skip_of c.skip_group-g.ensures c.in-Refused.is))
+pub overflow_sub-group : goal.overflow_sub-group
+overflow_sub-group c = omega (arith, reached (group_reach 16 _ _ _) (says past c.skip_group.ensures c.in_ok-next.was))
 
-pub returns-in-Past : goal.returns-in-Past
-returns-in-Past c = sym (payload-group _ _ _ _ c.if-s-at.false c.if-wire-ne-SGROUP.false ∙ goes_on _ (says skip_of c.skip_group-g.ensures c.in-Past.is))
+pub returns : goal.returns
+returns c = sym (payload-group _ _ _ _ c.if-s-at.false c.if-wire-ne-SGROUP.false ∙ goes_on _ (says past c.skip_group.ensures c.in_ok-next.was))

@@ -1,4 +1,5 @@
 -- `read_single` is `value_by` at each wire type's number.
+use native.Mathlib.Omega.{arith}
 use mathlib.Core.Path.{refl}
 use Rattle.protobuf.specs.Read.{and_then}
 use Rattle.message.specs.Payload.{value_by, group_by}
@@ -27,4 +28,4 @@ returns-in-5 c = single_of _ _ c.in-5.is c.read_fixed-in-5.ensures
 
 pub returns-in_default : goal.returns-in_default
 unfolding value_by group_by and_then
-returns-in_default c = let none = c.in_default.in_default-own.rest in single-none _ _ _ none.0.0.0.0.1 none.0.0.0.1 none.0.0.1 none.0.1 none.1
+returns-in_default c = single-none _ _ _ (λ e. omega arith) (λ e. omega arith) (λ e. omega arith) (λ e. omega arith) (λ e. omega arith)

@@ -5,8 +5,8 @@ use lib.ListN.{length}
 use Rattle.message.proofs.laws.Group.{Open}
 use Rattle.message.proofs.payload.skip_group.Given as goal
 
-abbrev pub invariant-loop-n : goal.invariant-loop-n
-invariant-loop-n l = Open l.s l.field l.at l.numbers l.top l.i
+abbrev pub invariant-loop-tag : goal.invariant-loop-tag
+invariant-loop-tag l = Open l.s l.field l.at l.numbers l.top l.i
 
-abbrev pub decreases-loop-n : goal.decreases-loop-n
-decreases-loop-n l = length l.s - l.i
+abbrev pub decreases-loop-tag : goal.decreases-loop-tag
+decreases-loop-tag l = length l.s - l.i

@@ -1,9 +1,7 @@
 -- `nuorpyts_dense_info` tests `out`, and then answers what `WireDenseInfo::parse` does.
 use native.Mathlib.Omega.{arith}
-use mathlib.Core.Path.{refl}
-use Rattle.protobuf.proofs.laws.Read.{says}
+use mathlib.Core.Path.{refl, sym, ◌∙◌}
 use Rattle.fields.specs.Outcome.{each}
-use Rattle.views.specs.DenseInfo.{parsed_dense_info}
 use Rattle.layouts.specs.Views.{dense_info_words}
 use Rattle.answers.proofs.laws.Codes.{answer-short, answer-refused, answer-kept}
 use Rattle.nuorpyts.proofs.messages.nuorpyts_dense_info.Goals as goal
@@ -11,8 +9,8 @@ use Rattle.nuorpyts.proofs.messages.nuorpyts_dense_info.Goals as goal
 pub returns-then-out-lt144 : goal.returns-then-out-lt144
 returns-then-out-lt144 c = let said = answer-short 18 dense_info_words _ (λ a. refl) (each _ _) (omega arith) in record { code = said.0; after = said.1 }
 
-pub returns-in-Refused : goal.returns-in-Refused
-returns-in-Refused c = let said = answer-refused 18 dense_info_words _ (omega arith) (says parsed_dense_info c.parse-r.ensures c.in-Refused.is) c.number.ensures in record { code = said.0; after = said.1 }
+pub returns-in-Err : goal.returns-in-Err
+returns-in-Err c = let said = answer-refused 18 dense_info_words _ (omega arith) (sym c.parse-r.ensures ∙ c.in-Err.is) c.number.ensures in record { code = said.0; after = said.1 }
 
-pub returns-in-Parsed : goal.returns-in-Parsed
-returns-in-Parsed c = let said = answer-kept 18 dense_info_words c.args.out.now c.if-out-lt144.false (says parsed_dense_info c.parse-r.ensures c.in-Parsed.is) c.dense_info_numbers.ensures c.put_numbers.ensures in record { code = said.0; after = said.1 }
+pub returns-in-Ok : goal.returns-in-Ok
+returns-in-Ok c = let said = answer-kept 18 dense_info_words c.args.out.now c.if-out-lt144.false (sym c.parse-r.ensures ∙ c.in-Ok.is) c.dense_info_numbers.ensures c.put_numbers.ensures in record { code = said.0; after = said.1 }

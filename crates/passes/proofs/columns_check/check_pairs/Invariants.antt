@@ -5,8 +5,5 @@ use Rattle.block.specs.Check.{check_pairs}
 use Rattle.columns.specs.InStep.{ahead}
 use Rattle.passes.proofs.columns_check.check_pairs.Given as goal
 
-abbrev pub invariant-loop-i : goal.invariant-loop-i
-invariant-loop-i l = check_pairs l.n (ahead l.s l.initial.column) ≡ check_pairs (l.n - l.i) (ahead l.s l.column)
-
-abbrev pub decreases-loop-i : goal.decreases-loop-i
-decreases-loop-i l = l.n - l.i
+abbrev pub invariant-loop : goal.invariant-loop
+invariant-loop l = check_pairs l.n (ahead l.s l.initial.column) ≡ check_pairs (l.n - l.counter) (ahead l.s l.column)

@@ -2,9 +2,8 @@
 use native.Mathlib.Omega.{arith}
 use lib.Dec.{lit<}
 use lib.Seq.{length-take-le}
-use mathlib.Core.Path.{sym}
-use Rattle.protobuf.specs.Answers.{varint_of}
-use Rattle.protobuf.proofs.laws.Read.{says, reached}
+use mathlib.Core.Path.{sym, ◌∙◌}
+use Rattle.protobuf.proofs.laws.Read.{reached}
 use Rattle.protobuf.proofs.laws.Varint.{varint_reach}
 use Rattle.protobuf.proofs.laws.Column.{step_one, short-some, short-by, short-outside, short-behind, short-long}
 use Rattle.protobuf.proofs.column.wide_value.Goals as goal
@@ -13,10 +12,10 @@ pub returns-then-byte-lt128 : goal.returns-then-byte-lt128
 returns-then-byte-lt128 c = short-some _ 1 (lit< tt) (step_one _ _ _ (omega (arith, c.if-end-at.false)) c.if-s-end.false (λ e. omega (arith, c.if-end-at.false)) c.if-byte-lt128.true)
 
 pub overflow_sub-bytes : goal.overflow_sub-bytes
-overflow_sub-bytes c = omega (arith, reached (varint_reach _ _) (says varint_of c.read_varint-r.ensures c.in-Value.is))
+overflow_sub-bytes c = omega (arith, reached (varint_reach _ _) (sym c.read_varint.ensures ∙ c.in-Ok.is))
 
 pub returns : goal.returns
-returns c = short-by _ _ _ c.if-end-at.false c.if-s-end.false (says varint_of c.read_varint-r.ensures c.in-Value.is) (omega (arith, c.if-bytes-gt15.false))
+returns c = short-by _ _ _ c.if-end-at.false c.if-s-end.false (sym c.read_varint.ensures ∙ c.in-Ok.is) (omega (arith, c.if-bytes-gt15.false))
 
 pub returns-then-s-end : goal.returns-then-s-end
 returns-then-s-end c = short-outside _ _ _ c.if-s-end.true

@@ -8,13 +8,13 @@ use Rattle.same.proofs.items.same_element.Goals as goal
 pub returns-then-not-same_head : goal.returns-then-not-same_head
 returns-then-not-same_head c m n =
     let a = c.args in
-    test_stops _
+    test_stops
     (c.same_head.ensures ∙ heads-same a.first.now a.a a.second.now a.b m n a.group a.other a.e a.f c.head_of.ensures c.head_of-2.ensures)
-    c.if-not-same_head.true-raw
+    _ c.if-not-same_head.true
 
 pub returns : goal.returns
 returns c m n =
     let a = c.args in
     test_goes-on
     (c.same_head.ensures ∙ heads-same a.first.now a.a a.second.now a.b m n a.group a.other a.e a.f c.head_of.ensures c.head_of-2.ensures)
-    c.if-not-same_head.false-raw c.same_item.ensures
+    c.if-not-same_head.false c.same_item.ensures

@@ -1,8 +1,8 @@
 -- `same_refs` steps both, as long as they hand out the same.
+use Rattle.std.specs.Prelude.{Ok}
 use mathlib.Core.Path.{◌≡◌, ap}
 use mir.Syntax.{w64}
 use Rattle.protobuf.proofs.laws.Read.{says}
-use Rattle.fields.specs.Outcome.{kept}
 use Rattle.fields.proofs.laws.Part.{refuted, confirmed}
 use Rattle.elements.specs.References.{refs_from, ref_said}
 use Rattle.columns.proofs.laws.InStep.{more_shortens}
@@ -29,7 +29,7 @@ returns-then-not-same_i64 c =
     let compared : c.same_i64.result ≡ same_number c.in-Ref.id c.in-Ref-q.other =
     held_same w64 c.in-Ref.id c.in-Ref-q.other c.in-Ref.known_told-1-own.given.0.1 c.in-Ref-q.known_told-in-Ref-q-1-own.given.0.1 c.same_i64.ensures in
     two-differ (both_step c.loop-id.invariant c.step-p.ensures.says c.step-q.ensures.says) (ap (ref_said _) c.in-Ref.is) (ap (ref_said _) c.in-Ref-q.is)
-    (ap kept (refuted compared c.if-not-same_i64.true-raw))
+    (ap Ok (refuted compared c.if-not-same_i64.true-raw))
 
 pub loop-id-smaller : goal.loop-id-smaller
 loop-id-smaller c = more_shortens (says (ref_said _) c.step-p.ensures.says c.in-Ref.is)
@@ -39,7 +39,7 @@ loop-id-preserved c =
     let compared : c.same_i64.result ≡ same_number c.in-Ref.id c.in-Ref-q.other =
     held_same w64 c.in-Ref.id c.in-Ref-q.other c.in-Ref.known_told-1-own.given.0.1 c.in-Ref-q.known_told-in-Ref-q-1-own.given.0.1 c.same_i64.ensures in
     two-same (both_step c.loop-id.invariant c.step-p.ensures.says c.step-q.ensures.says) (ap (ref_said _) c.in-Ref.is) (ap (ref_said _) c.in-Ref-q.is)
-    (ap kept (confirmed compared c.if-not-same_i64.false-raw))
+    (ap Ok (confirmed compared c.if-not-same_i64.false-raw))
 
 pub loop-id-init : goal.loop-id-init
 loop-id-init c = set_out _ _ _

@@ -1,7 +1,7 @@
 -- `same_tags` steps both, as long as they hand out the same.
+use Rattle.std.specs.Prelude.{Ok}
 use mathlib.Core.Path.{ap}
 use Rattle.protobuf.proofs.laws.Read.{says}
-use Rattle.fields.specs.Outcome.{kept}
 use Rattle.fields.proofs.laws.Part.{refuted, confirmed}
 use Rattle.elements.specs.Tags.{tags_from, tag_said}
 use Rattle.columns.proofs.laws.InStep.{more_shortens}
@@ -33,7 +33,7 @@ same_tag-requires c =
 pub returns-then-not-same_tag : goal.returns-then-not-same_tag
 returns-then-not-same_tag c =
     two-differ (both_step c.loop-tag.invariant c.step-p.ensures.says c.step-q.ensures.says) (ap (tag_said _ _) c.in-Tag.is) (ap (tag_said _ _) c.in-Tag-q.is)
-    (ap kept (refuted c.same_tag.ensures c.if-not-same_tag.true-raw))
+    (ap Ok (refuted c.same_tag.ensures c.if-not-same_tag.true-raw))
 
 pub loop-tag-smaller : goal.loop-tag-smaller
 loop-tag-smaller c = more_shortens (says (tag_said _ _) c.step-p.ensures.says c.in-Tag.is)
@@ -41,7 +41,7 @@ loop-tag-smaller c = more_shortens (says (tag_said _ _) c.step-p.ensures.says c.
 pub loop-tag-preserved : goal.loop-tag-preserved
 loop-tag-preserved c =
     two-same (both_step c.loop-tag.invariant c.step-p.ensures.says c.step-q.ensures.says) (ap (tag_said _ _) c.in-Tag.is) (ap (tag_said _ _) c.in-Tag-q.is)
-    (ap kept (confirmed c.same_tag.ensures c.if-not-same_tag.false-raw))
+    (ap Ok (confirmed c.same_tag.ensures c.if-not-same_tag.false-raw))
 
 pub loop-tag-init : goal.loop-tag-init
 loop-tag-init c = set_out _ _ _

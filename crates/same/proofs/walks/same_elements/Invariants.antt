@@ -6,8 +6,8 @@ use Rattle.walk.specs.Same.{same_element}
 use Rattle.same.proofs.laws.InStep.{InStep}
 use Rattle.same.proofs.walks.same_elements.Given as goal
 
-abbrev pub invariant-loop-compared : goal.invariant-loop-compared
-invariant-loop-compared l = InStep (same_element l.first l.a l.second l.b) (elements_from l.first l.a (fresh false)) (elements_from l.second l.b (fresh false)) (elements_from l.first l.a l.here) (elements_from l.second l.b l.there)
+abbrev pub invariant-loop-same : goal.invariant-loop-same
+invariant-loop-same l = InStep (same_element l.first l.a l.second l.b) (elements_from l.first l.a (fresh false)) (elements_from l.second l.b (fresh false)) (elements_from l.first l.a l.here) (elements_from l.second l.b l.there)
 
-abbrev pub decreases-loop-compared : goal.decreases-loop-compared
-decreases-loop-compared l = size (elements_from l.first l.a l.here)
+abbrev pub decreases-loop-same : goal.decreases-loop-same
+decreases-loop-same l = size (elements_from l.first l.a l.here)

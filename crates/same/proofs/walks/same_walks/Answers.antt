@@ -7,10 +7,10 @@ pub returns-then-not-same_record : goal.returns-then-not-same_record
 unfolding same_walks
 returns-then-not-same_record c =
     let a = c.args in
-    test_stops _ (c.same_record.ensures a.first.now a.second.now) c.if-not-same_record.true-raw
+    test_stops (c.same_record.ensures a.first.now a.second.now) _ c.if-not-same_record.true
 
 pub returns : goal.returns
 unfolding same_walks
 returns c =
     let a = c.args in
-    test_goes-on (c.same_record.ensures a.first.now a.second.now) c.if-not-same_record.false-raw c.same_elements.ensures
+    test_goes-on (c.same_record.ensures a.first.now a.second.now) c.if-not-same_record.false c.same_elements.ensures

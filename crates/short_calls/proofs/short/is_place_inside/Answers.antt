@@ -7,10 +7,8 @@ use lib.ListN.{length}
 use lib.Dec.{leb}
 use borrow.Author.Tests.{lt-ltb}
 use Rattle.numbers.specs.Little.{number_at}
-use Rattle.protobuf.proofs.laws.Read.{says}
 use Rattle.fields.proofs.laws.Part.{confirmed}
 use Rattle.columns.proofs.laws.Inside.{also-true}
-use Rattle.answers.specs.Record.{record_of}
 use Rattle.short_calls.proofs.short.is_place_inside.Goals as goal
 
 pub returns-in_default : goal.returns-in_default
@@ -30,9 +28,9 @@ returns c e = let a = c.args in
     let s = a.buffer.now in
     let slot = a.slot.now in
     record {
-      block = c.in-Record.block;
-      read = says record_of c.record_in-r.ensures c.in-Record.is;
+      block = c.in-Ok.block;
+      read = sym c.record_in-r.ensures ∙ c.in-Ok.is;
       tables = confirmed c.is_inside.ensures c.if-not-is_inside.false-raw;
-      group = also-true (lt-ltb (number_at 8 slot 16) c.in-Record.block.groups (omega (arith, c.if-block-read_u64.false, c.read_u64.ensures))) (sym (λ j. leb (c.read_u64-2.ensures j + c.read_u64-3.ensures j) (length s)) ∙ confirmed c.part_fits.ensures c.if-not-part_fits.false-raw);
+      group = also-true (lt-ltb (number_at 8 slot 16) c.in-Ok.block.groups (omega (arith, c.if-block-read_u64.false, c.read_u64.ensures))) (sym (λ j. leb (c.read_u64-2.ensures j + c.read_u64-3.ensures j) (length s)) ∙ confirmed c.part_fits.ensures c.if-not-part_fits.false-raw);
       message = sym (λ j. leb (c.read_u64-4.ensures j + c.read_u64-5.ensures j) (length s)) ∙ sym c.part_fits-2.ensures ∙ e;
     }

@@ -1,10 +1,9 @@
 -- `put_node` puts what the view keeps, with the Info's part that the walk shows.
+use Rattle.std.specs.Prelude.{Ok}
 use native.Mathlib.Omega.{arith}
 use mathlib.Core.Path.{sym, ap, ◌∙◌}
-use Rattle.protobuf.proofs.laws.Read.{says}
 use Rattle.fields.specs.declared.part.Part.{Part}
-use Rattle.fields.specs.Outcome.{kept}
-use Rattle.views.specs.Node.{parsed_node, node_at}
+use Rattle.views.specs.Node.{node_at}
 use Rattle.elements.specs.declared.element.Element.TheVariants as element
 use Rattle.elements.specs.Element.{node_item}
 use Rattle.kinds.specs.declared.state.Loose.TheVariants as kind
@@ -16,9 +15,9 @@ use Rattle.walk_calls.proofs.messages.put_node.Goals as goal
 pub returns : goal.returns
 returns c =
     let a = c.args in
-    let v = c.in-Parsed.v in
+    let v = c.in-Ok.v in
     message-put a.buffer.now a.full kind.Nodes a.group a.message a.out.now a.at (element.Node (record { id = v.id; lat = v.lat; lon = v.lon; keys = v.keys; vals = v.vals; info = c.info_in-info.result }))
-    (shown-kept (node_at a.message.start) (node_in a.full) _ (says parsed_node c.parse-p.ensures c.in-Parsed.is) ∙ ap (λ (p : Part). kept (node_item (record { id = v.id; lat = v.lat; lon = v.lon; keys = v.keys; vals = v.vals; info = p }))) (sym c.info_in-info.ensures))
+    (shown-kept (node_at a.message.start) (node_in a.full) _ (sym c.parse-p.ensures ∙ c.in-Ok.is) ∙ ap (λ (p : Part). Ok (node_item (record { id = v.id; lat = v.lat; lon = v.lon; keys = v.keys; vals = v.vals; info = p }))) (sym c.info_in-info.ensures))
     c.requires c.put_at.auto.out c.put_at.ensures c.node_numbers.ensures c.put_at-2.ensures
 
 pub returns-in_default : goal.returns-in_default

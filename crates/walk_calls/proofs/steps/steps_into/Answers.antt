@@ -1,6 +1,5 @@
 -- `steps_into` goes by whether there is a record.
-use Rattle.protobuf.proofs.laws.Read.{says}
-use Rattle.answers.specs.Record.{record_of}
+use mathlib.Core.Path.{sym, ◌∙◌}
 use Rattle.walk.specs.declared.state.BlockElementsIter.TheVariants as walk
 use Rattle.calls.proofs.laws.Calls.{call_short}
 use Rattle.walk_slots.specs.Slot.{walk_words, walk_at}
@@ -11,8 +10,8 @@ use Rattle.walk_calls.proofs.steps.steps_into.Goals as goal
 pub returns-then-slot-lt272 : goal.returns-then-slot-lt272
 returns-then-slot-lt272 c = call_short _ put_words (walk_in _ _) 208 walk.Ended walk_at walk_words walk_over 272 _ _ _ c.if-slot-lt272.true
 
-pub returns-in-Outside : goal.returns-in-Outside
-returns-in-Outside c = called_without _ _ _ _ _ c.if-slot-lt272.false (says record_of c.record_in-r.ensures c.in-Outside.is) c.none_into.ensures
+pub returns-in-Err : goal.returns-in-Err
+returns-in-Err c = called_without _ _ _ _ _ c.if-slot-lt272.false (sym c.record_in-r.ensures ∙ c.in-Err.is) c.none_into.ensures
 
-pub returns-in-Record : goal.returns-in-Record
-returns-in-Record c = called-over _ _ _ _ _ (says record_of c.record_in-r.ensures c.in-Record.is) c.block_into.ensures
+pub returns-in-Ok : goal.returns-in-Ok
+returns-in-Ok c = called-over _ _ _ _ _ (sym c.record_in-r.ensures ∙ c.in-Ok.is) c.block_into.ensures

@@ -7,8 +7,8 @@ use Rattle.wire.specs.Block.{block_fields}
 use Rattle.fields.proofs.laws.View.{Viewed}
 use Rattle.wire.proofs.primitive_block.scan_block_fields.Given as goal
 
-abbrev pub invariant-loop-n : goal.invariant-loop-n
-invariant-loop-n l = Viewed block_fields primitive_block l.s l.v l.at × (l.v.groups ≤ l.at)
+abbrev pub invariant-loop-field : goal.invariant-loop-field
+invariant-loop-field l = Viewed block_fields primitive_block l.s l.v l.at × (l.v.groups ≤ l.at)
 
-abbrev pub decreases-loop-n : goal.decreases-loop-n
-decreases-loop-n l = length l.s - l.at
+abbrev pub decreases-loop-field : goal.decreases-loop-field
+decreases-loop-field l = length l.s - l.at

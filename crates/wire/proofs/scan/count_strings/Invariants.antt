@@ -7,8 +7,8 @@ use Rattle.wire.specs.Scan.{string_count}
 use Rattle.fields.proofs.laws.View.{Viewed}
 use Rattle.wire.proofs.scan.count_strings.Given as goal
 
-abbrev pub invariant-loop-r : goal.invariant-loop-r
-invariant-loop-r l = Viewed string_count string_table l.s l.n l.at × (l.n ≤ l.at)
+abbrev pub invariant-loop-field : goal.invariant-loop-field
+invariant-loop-field l = Viewed string_count string_table l.s l.n l.at × (l.n ≤ l.at)
 
-abbrev pub decreases-loop-r : goal.decreases-loop-r
-decreases-loop-r l = length l.s - l.at
+abbrev pub decreases-loop-field : goal.decreases-loop-field
+decreases-loop-field l = length l.s - l.at

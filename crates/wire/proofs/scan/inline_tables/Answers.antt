@@ -1,10 +1,10 @@
 -- `inline_tables` tests the room and writes the strings' entries and then the groups'.
+use Rattle.std.specs.Prelude.{Ok}
 use Prim.Native.Nat.{◌+◌, ◌*◌, ◌≤◌}
-use native.Mathlib.Omega.{arith}
 use lib.ListN.{length}
 use mathlib.Core.Path.{sym, ap, ◌∙◌}
 use borrow.Author.Tests.{leb-true, leb-false}
-use Rattle.fields.specs.Outcome.{kept, each}
+use Rattle.fields.specs.Outcome.{each}
 use Rattle.wire.specs.Scan.{meta, after_scan}
 use Rattle.wire.proofs.laws.Scan.{no_room, with-room, strings-room, groups-room, both-written}
 use Rattle.wire.proofs.scan.inline_tables.Goals as goal
@@ -22,12 +22,6 @@ write_entries-requires-then-has_room c =
     groups-room c.requires room _
     c.write_entries.ensures
 
-pub record_of-requires : goal.record_of-requires
-record_of-requires c =
-    let room : let a = c.args in a.block + 8 * (a.strings + a.top.groups) ≤ length a.buffer.now =
-    leb-true _ _ (sym c.has_room.ensures ∙ c.if-has_room.true) in
-    omega (arith, room, c.well_formed)
-
 pub returns-then-has_room : goal.returns-then-has_room
 unfolding each
 returns-then-has_room c =
@@ -35,7 +29,7 @@ returns-then-has_room c =
     leb-true _ _ (sym c.has_room.ensures ∙ c.if-has_room.true) in
     let r = c.requires in
     let h = room in
-    record { answer = ap kept c.record_of.ensures ∙ sym (ap (each meta) (with-room r h)); after = both-written r h _ c.write_entries.ensures _ c.write_entries-then-has_room.ensures ∙ sym (ap (after_scan _ _) (with-room r h)) }
+    record { answer = ap Ok c.record_of.ensures ∙ sym (ap (each meta) (with-room r h)); after = both-written r h _ c.write_entries.ensures _ c.write_entries-then-has_room.ensures ∙ sym (ap (after_scan _ _) (with-room r h)) }
 
 pub returns-else-has_room : goal.returns-else-has_room
 unfolding each
@@ -43,13 +37,3 @@ returns-else-has_room c =
     let r = c.requires in
     let h = leb-false _ _ (sym c.has_room.ensures ∙ c.if-has_room.false) in
     record { answer = sym (ap (each meta) (no_room r h)); after = sym (ap (after_scan _ _) (no_room r h)) }
-
-pub overflow_mul-place : goal.overflow_mul-place
-overflow_mul-place c = let room : let a = c.args in a.block + 8 * (a.strings + a.top.groups) ≤ length a.buffer.now =
-    leb-true _ _ (sym c.has_room.ensures ∙ c.if-has_room.true) in
-    omega (arith, room)
-
-pub overflow_add-place : goal.overflow_add-place
-overflow_add-place c = let room : let a = c.args in a.block + 8 * (a.strings + a.top.groups) ≤ length a.buffer.now =
-    leb-true _ _ (sym c.has_room.ensures ∙ c.if-has_room.true) in
-    omega (arith, room)

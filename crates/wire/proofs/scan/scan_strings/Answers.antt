@@ -1,9 +1,9 @@
 -- `scan_strings` reads the chosen string table, which stands within the block, and hands on to the third stage.
+use Rattle.protobuf.proofs.laws.Read.{handed_on}
 use native.Mathlib.Omega.{arith}
 use mathlib.Core.Path.{sym, ap, ◌∙◌}
-use Rattle.protobuf.proofs.laws.Read.{says}
 use Rattle.fields.specs.Outcome.{each}
-use Rattle.wire.specs.Scan.{counted, meta, after_scan}
+use Rattle.wire.specs.Scan.{meta, after_scan}
 use Rattle.wire.proofs.laws.Scan.{strings-within, strings-refused, strings-read, strings-counted}
 use Rattle.wire.proofs.scan.scan_strings.Goals as goal
 
@@ -18,15 +18,15 @@ slice_bounds-count_strings-end c =
     omega (arith, strings-within r, r.inside)
 
 pub inline_tables-requires : goal.inline_tables-requires
-inline_tables-requires c = strings-read c.requires (says counted c.count_strings-c.ensures c.in-Counted.is)
+inline_tables-requires c = strings-read c.requires (sym c.count_strings.ensures ∙ c.in_ok-strings.was)
 
-pub returns-in-Refused : goal.returns-in-Refused
+pub returns-in_err-strings : goal.returns-in_err-strings
 unfolding each
-returns-in-Refused c =
-    let e = strings-refused c.requires (says counted c.count_strings-c.ensures c.in-Refused.is) in
-    record { answer = sym (ap (each meta) e); after = sym (ap (after_scan _ _) e) }
+returns-in_err-strings c =
+    let e = strings-refused c.requires (sym c.count_strings.ensures ∙ c.in_err-strings.was) in
+    record { answer = handed_on _ c.from_residual.ensures ∙ sym (ap (each meta) e); after = sym (ap (after_scan _ _) e) }
 
-pub returns-in-Counted : goal.returns-in-Counted
-returns-in-Counted c =
-    let e = strings-counted c.requires (says counted c.count_strings-c.ensures c.in-Counted.is) in
+pub returns : goal.returns
+returns c =
+    let e = strings-counted c.requires (sym c.count_strings.ensures ∙ c.in_ok-strings.was) in
     record { answer = c.inline_tables.ensures.answer ∙ sym (ap (each meta) e); after = c.inline_tables.ensures.after ∙ sym (ap (after_scan _ _) e) }

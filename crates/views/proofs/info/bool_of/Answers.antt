@@ -1,8 +1,0 @@
--- `bool_of` is `bool_of`, by whether the number is present.
-use Rattle.views.proofs.info.bool_of.Goals as goal
-
-pub returns-then-x : goal.returns-then-x
-returns-then-x c = simp c.if-x.true
-
-pub returns-else-x : goal.returns-else-x
-returns-else-x c = simp c.if-x.false
