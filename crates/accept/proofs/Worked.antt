@@ -17,8 +17,8 @@ use Rattle.groups.specs.Group.{dense_from}
 use Rattle.wire.specs.declared.record.WireBlock.{WireBlock}
 use Rattle.block.specs.Columns.{column_in, count_of}
 use Rattle.block.specs.Tags.{take_pairs, dense_pairs}
-use Rattle.block.specs.Check.{passed, all, agreed, element_by, check_dense, check_group}
-use Rattle.accept.specs.Accept.{element_of, parts_at, checked_in}
+use Rattle.block.specs.Check.{passed, all, agreed, element_by, check_node, check_way, check_relation, check_dense, check_group}
+use Rattle.accept.specs.Accept.{parts_at, checked_in}
 
 -- a record that says where things stand
 abbrev place : ℕ → ℕ → ℕ → ℕ → ℕ → WireBlock
@@ -67,14 +67,16 @@ pub record Worked : Type 0 where
   pub strings-outside : checked_in bytes (place 4 1 4 0 4) ≡ Err Outside
   pub groups-outside : checked_in (bytes ++ entry 0 2) (place 4 0 4 2 4) ≡ Err Outside
   pub ranges_before-groups : by_two (entry 2 2) (entry 20 1) ≡ Err Outside
-  -- a message by its tag: node, way, relation; any other passes
-  pub node-by-tag : element_of 10 one_key ≡ Err Counts
-  pub node_has_no_eight : element_of 10 cut_eight ≡ passed
-  pub way-by-tag : element_of 26 cut_eight ≡ Err VarintCut
-  pub relation-by-tag : element_of 34 cut_eight ≡ Err VarintCut
-  pub relation-counts : element_of 34 (0x42 ∷ 0x01 ∷ 0x01 ∷ []) ≡ Err Counts
-  pub way-counts : element_of 26 (0x42 ∷ 0x01 ∷ 0x01 ∷ []) ≡ passed
-  pub other_tag : element_of 18 one_key ≡ passed
+  -- a message by its kind
+  pub node-by-tag : check_node one_key ≡ Err Counts
+  pub node_has_no_eight : check_node cut_eight ≡ passed
+  pub way-by-tag : check_way cut_eight ≡ Err VarintCut
+  pub relation-by-tag : check_relation cut_eight ≡ Err VarintCut
+  pub relation-counts : check_relation (0x42 ∷ 0x01 ∷ 0x01 ∷ []) ≡ Err Counts
+  pub way-counts : check_way (0x42 ∷ 0x01 ∷ 0x01 ∷ []) ≡ passed
+  -- and in a group by its tag: any other passes
+  pub node_in_group : check_group (0x0A ∷ 0x03 ∷ one_key) ≡ Err Counts
+  pub other_tag : check_group (0x2A ∷ 0x03 ∷ one_key) ≡ passed
 
 pub worked : Worked
 unfolding and_then digits varint legal tag tag_at raw_varint fixed counted length_delimited value_by field_in fields_of group_by payload unrolled field_at message_from value_at column_from onward each column_part info_part put store view_from view dense_from parts_of messages_of column_in count_of take_pairs dense_pairs all agreed element_by check_dense check_group little number_at parts_at checked_in
@@ -96,5 +98,6 @@ worked =
       relation-by-tag = refl;
       relation-counts = refl;
       way-counts = refl;
+      node_in_group = refl;
       other_tag = refl;
     }

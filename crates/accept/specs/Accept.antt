@@ -1,20 +1,15 @@
 -- The check as it is called: on a buffer and a record. 14 comes first, for the record and for each of its groups' table entries; then the
 -- groups are read in their order. On the buffer and the record that a scan left, that is the check of the block's own bytes
 -- (`laws/Accept`).
-use Rattle.std.specs.Prelude.{ℕ, zero, suc, ◌+◌, List, [], ◌∷◌, eqb, Err}
+use Rattle.std.specs.Prelude.{ℕ, zero, suc, ◌+◌, List, [], ◌∷◌, Err}
 use Rattle.protobuf.specs.declared.refusal.Refusal.TheVariants.{Outside}
 use Rattle.numbers.specs.Choose.{choose}
 use Rattle.fields.specs.declared.part.Part.{Part}
 use Rattle.wire.specs.declared.record.WireBlock.{WireBlock}
 use Rattle.fields.specs.Outcome.{Outcome, onward}
 use Rattle.lookup.specs.Lookup.{entry_at, is_record_inside}
-use Rattle.block.specs.Check.{passed, all, check_node, check_way, check_relation, check_group}
+use Rattle.block.specs.Check.{passed, all, check_group}
 use Rattle.fields.specs.Part.{is_inside, bytes_in}
-
--- a message of a group, by its tag: 10 a node, 26 a way, 34 a relation
-abbrev pub element_of : ℕ → List ℕ → Outcome Unit
-element_of tag s =
-    choose (eqb tag 10) (check_node s) (choose (eqb tag 26) (check_way s) (choose (eqb tag 34) (check_relation s) passed))
 
 -- the parts that n entries of a table name, from a place on
 unfoldable pub parts_at : List ℕ → ℕ → ℕ → List Part

@@ -1,8 +1,8 @@
 // The check of a group: the dense pass over all its fields, its dense message, its nodes, its ways, its relations.
-ghost use Rattle.std.specs.Prelude.{◌≡◌, [], ◌∷◌, ◌/◌, ◌%◌};
+ghost use Rattle.std.specs.Prelude.{◌≡◌, refl, ℕ, List, [], ◌∷◌, ◌/◌, ◌%◌};
 ghost use Rattle.numbers.specs.Choose.{choose};
-ghost use Rattle.block.specs.Check.{all, check_dense, check_loose, check_group};
-ghost use Rattle.accept.specs.Accept.{element_of};
+ghost use Rattle.block.specs.Check.{all, check_node, check_way, check_relation, check_dense, check_loose, check_group};
+ghost use Rattle.fields.specs.Outcome.{Outcome};
 ghost use Rattle.fields.specs.Part.{bytes_of};
 ghost use Rattle.fields.specs.Parts.{messages_of};
 
@@ -13,29 +13,75 @@ use message::field::next_field;
 use passes::dense_check::check_dense;
 use passes::element_check::{check_node, check_relation, check_way};
 use protobuf::refusal::Refusal;
+use views::node::WireNode;
+use views::relation::WireRelation;
+use views::way::WireWay;
 
-// A message of a group, by its tag.
-fn check_element(s: &[u8], tag: u32) -> Result<(), Refusal>
-    ensures { result ≡ element_of tag s.now }
-{
-    match tag {
-        NODE => check_node(s),
-        WAY => check_way(s),
-        RELATION => check_relation(s),
-        _ => Ok(()),
+// A kind of element with a message of its own: the tag of that message in a group, and the check of its bytes.
+trait Checked {
+    const TAG: u32;
+
+    ghost TAG: { ℕ };
+
+    ghost check: { List ℕ → Outcome Unit };
+
+    fn check(s: &[u8]) -> Result<(), Refusal>
+        ensures { result ≡ check s.now };
+
+    ghost is_message: { TAG % 8 ≡ 2 };
+}
+
+impl Checked for WireNode {
+    const TAG: u32 = NODE;
+
+    ghost TAG = { 10 };
+
+    ghost check = { check_node };
+
+    ghost is_message = { refl };
+
+    fn check(s: &[u8]) -> Result<(), Refusal> {
+        check_node(s)
     }
 }
 
-// The group's messages of one tag.
-fn check_elements(s: &[u8], tag: u32) -> Result<(), Refusal>
-    requires { tag % 8 ≡ 2 }
-    ensures { result ≡ all (element_of tag) (messages_of (tag / 8) s.now) }
+impl Checked for WireWay {
+    const TAG: u32 = WAY;
+
+    ghost TAG = { 26 };
+
+    ghost check = { check_way };
+
+    ghost is_message = { refl };
+
+    fn check(s: &[u8]) -> Result<(), Refusal> {
+        check_way(s)
+    }
+}
+
+impl Checked for WireRelation {
+    const TAG: u32 = RELATION;
+
+    ghost TAG = { 34 };
+
+    ghost check = { check_relation };
+
+    ghost is_message = { refl };
+
+    fn check(s: &[u8]) -> Result<(), Refusal> {
+        check_relation(s)
+    }
+}
+
+// The group's messages of one kind.
+fn check_elements<E: Checked>(s: &[u8]) -> Result<(), Refusal>
+    ensures { result ≡ all E.check (messages_of (E.TAG / 8) s.now) }
 {
     let mut at = 0;
     while let Some((field, next)) = next_field(s, at).unwrap_or(None) {
-        if field.tag == tag {
+        if field.tag == E::TAG {
             let end = field.start + field.len;
-            check_element(&s[field.start..end], tag)?;
+            E::check(&s[field.start..end])?;
         }
         at = next;
     }
@@ -57,9 +103,9 @@ fn check_found(s: &[u8], found: Part) -> Result<(), Refusal>
 fn check_loose(s: &[u8]) -> Result<(), Refusal>
     ensures { result ≡ check_loose s.now }
 {
-    check_elements(s, NODE)?;
-    check_elements(s, WAY)?;
-    check_elements(s, RELATION)
+    check_elements::<WireNode>(s)?;
+    check_elements::<WireWay>(s)?;
+    check_elements::<WireRelation>(s)
 }
 
 pub(crate) fn check_group(s: &[u8]) -> Result<(), Refusal>

@@ -1,6 +1,6 @@
 -- Worked values: what the definitions here say of concrete values and bytes, with all fields different. They are proved by computing, so a
 -- definition that is changed breaks a row, whatever the code does. Bytes are hexadecimal.
-use Rattle.std.specs.Prelude.{ℕ, ◌-◌, ◌^◌, ◌≡◌, refl, List, [], ◌∷◌, ◌++◌, take, replicate, ℤ, pos, negsuc, Ok, Err}
+use Rattle.std.specs.Prelude.{ℕ, ◌-◌, ◌^◌, true, false, ◌≡◌, refl, List, [], ◌∷◌, ◌++◌, take, replicate, ℤ, pos, negsuc, Ok, Err, Some, None}
 use Rattle.protobuf.specs.declared.refusal.Refusal.TheVariants.{VarintCut, NoRoom, Outside}
 use Rattle.protobuf.specs.Read.{and_then}
 use Rattle.numbers.specs.Little.{little, bytes, number_at}
@@ -13,6 +13,7 @@ use Rattle.message.specs.Message.{field_at, message_from}
 use Rattle.fields.specs.declared.part.Part.{Part}
 use Rattle.fields.specs.Part.{part_by, no_part}
 use Rattle.wire.specs.declared.record.WireBlock.{WireBlock}
+use Rattle.views.specs.declared.info.WireInfo.{WireInfo}
 use Rattle.groups.specs.declared.classify.BlockType.TheVariants.{Empty, Nodes, DenseNodes, Ways, Relations, Mixed}
 use Rattle.groups.specs.declared.group.MessagePlace.{MessagePlace}
 use Rattle.groups.specs.declared.group.WireMessageIter.TheVariants as iter
@@ -22,6 +23,7 @@ use Rattle.answers.specs.Words.{words, filled, filled_at, signed_word}
 use Rattle.answers.specs.Codes.{none_code, ended_code, code_of, answer_code, answer_after}
 use Rattle.answers.specs.Record.{record_words, record_in}
 use Rattle.answers.specs.Group.{part_words, range_words, kind_words, iter_words, messages_in}
+use Rattle.answers.specs.Views.{node_words, way_words, relation_words, dense_nodes_words, dense_info_words, info_words}
 use Rattle.answers.specs.Messages.{message_asked, message_code, message_out, message_state}
 
 -- a slice of n bytes that nothing was written to
@@ -74,6 +76,30 @@ ended = words (0 ∷ 0 ∷ 0 ∷ 0 ∷ 0 ∷ []) ++ blank 1
 -- a byte, then the group: a way, a node of one byte; then a byte
 abbrev group : List ℕ
 group = 0xFF ∷ 0x1A ∷ 0x00 ∷ 0x0A ∷ 0x01 ∷ 0x08 ∷ 0xFF ∷ []
+
+-- ---- an Info with all six, and one with none
+
+abbrev full_info : WireInfo
+full_info =
+    record {
+      version = Some (negsuc 1);
+      timestamp = Some (pos 3);
+      changeset = Some (negsuc 3);
+      uid = Some (pos 5);
+      user = Some (negsuc 5);
+      visible = Some true;
+    }
+
+abbrev no_info : WireInfo
+no_info =
+    record {
+      version = None;
+      timestamp = None;
+      changeset = None;
+      uid = None;
+      user = None;
+      visible = None;
+    }
 
 pub record Worked : Type 0 where
   -- numbers are 8 bytes each, the lowest first, one behind the other; signed ones in two's complement
@@ -151,6 +177,15 @@ pub record Worked : Type 0 where
   pub message-out-short-first : stepped group (nodes_at 1 5 5) (blank 23) ≡ (14, (ended, blank 23))
   pub message-group-outside : stepped group (nodes_at 1 7 0) (blank 24) ≡ (14, (ended, blank 24))
   pub message-place-outside : stepped group (nodes_at 1 5 6) (blank 24) ≡ (14, (ended, blank 24))
+  -- the views' answers
+  pub node-numbers : node_words (record { id = negsuc 0; lat = pos 2; lon = negsuc 2; keys = part_by 4 5; vals = no_part; info = part_by 6 7 }) ≡ minus 1 ∷ 2 ∷ minus 3 ∷ 1 ∷ 4 ∷ 5 ∷ 0 ∷ 0 ∷ 0 ∷ 1 ∷ 6 ∷ 7 ∷ []
+  pub way-numbers : way_words (record { id = negsuc 0; keys = part_by 2 3; vals = part_by 4 5; info = no_part; refs = part_by 6 7; lat = part_by 8 9; lon = part_by 10 11; pins = part_by 12 13 }) ≡ minus 1 ∷ 1 ∷ 2 ∷ 3 ∷ 1 ∷ 4 ∷ 5 ∷ 0 ∷ 0 ∷ 0 ∷ 1 ∷ 6 ∷ 7 ∷ 1 ∷ 8 ∷ 9 ∷ 1 ∷ 10 ∷ 11 ∷ 1 ∷ 12 ∷ 13 ∷ []
+  pub relation-numbers : relation_words (record { id = negsuc 0; keys = part_by 2 3; vals = part_by 4 5; info = no_part; roles = part_by 6 7; memids = part_by 8 9; types = part_by 10 11 }) ≡ minus 1 ∷ 1 ∷ 2 ∷ 3 ∷ 1 ∷ 4 ∷ 5 ∷ 0 ∷ 0 ∷ 0 ∷ 1 ∷ 6 ∷ 7 ∷ 1 ∷ 8 ∷ 9 ∷ 1 ∷ 10 ∷ 11 ∷ []
+  pub dense-nodes-numbers : dense_nodes_words (record { id = part_by 1 2; info = no_part; lat = part_by 3 4; lon = part_by 5 6; keyvals = part_by 7 8 }) ≡ 1 ∷ 1 ∷ 2 ∷ 0 ∷ 0 ∷ 0 ∷ 1 ∷ 3 ∷ 4 ∷ 1 ∷ 5 ∷ 6 ∷ 1 ∷ 7 ∷ 8 ∷ []
+  pub dense-info-numbers : dense_info_words (record { version = part_by 1 2; timestamp = part_by 3 4; changeset = part_by 5 6; uid = part_by 7 8; user = part_by 9 10; visible = no_part }) ≡ 1 ∷ 1 ∷ 2 ∷ 1 ∷ 3 ∷ 4 ∷ 1 ∷ 5 ∷ 6 ∷ 1 ∷ 7 ∷ 8 ∷ 1 ∷ 9 ∷ 10 ∷ 0 ∷ 0 ∷ 0 ∷ []
+  pub info-numbers : info_words full_info ≡ 1 ∷ minus 2 ∷ 1 ∷ 3 ∷ 1 ∷ minus 4 ∷ 1 ∷ 5 ∷ 1 ∷ minus 6 ∷ 1 ∷ 1 ∷ []
+  pub info-absent : info_words no_info ≡ 0 ∷ 0 ∷ 0 ∷ 0 ∷ 0 ∷ 0 ∷ 0 ∷ 0 ∷ 0 ∷ 0 ∷ 0 ∷ 0 ∷ []
+  pub info-not-visible : info_words (record { version = no_info.version; timestamp = no_info.timestamp; changeset = no_info.changeset; uid = no_info.uid; user = no_info.user; visible = Some false }) ≡ 0 ∷ 0 ∷ 0 ∷ 0 ∷ 0 ∷ 0 ∷ 0 ∷ 0 ∷ 0 ∷ 0 ∷ 1 ∷ 0 ∷ []
 
 pub worked : Worked
 unfolding little bytes number_at signed twos residue and_then digits varint legal tag tag_at raw_varint fixed counted length_delimited value_by field_in fields_of group_by payload unrolled field_at message_from first_part message_at words record_in messages_in
@@ -219,4 +254,12 @@ worked =
       message-out-short-first = refl;
       message-group-outside = refl;
       message-place-outside = refl;
+      node-numbers = refl;
+      way-numbers = refl;
+      relation-numbers = refl;
+      dense-nodes-numbers = refl;
+      dense-info-numbers = refl;
+      info-numbers = refl;
+      info-absent = refl;
+      info-not-visible = refl;
     }

@@ -5,7 +5,7 @@ use Rattle.numbers.specs.Choose.{choose}
 use Rattle.numbers.specs.Little.{number_at}
 use Rattle.fields.specs.declared.part.Part.{Part}
 use Rattle.groups.specs.declared.classify.BlockType.{BlockType}
-use Rattle.groups.specs.declared.classify.BlockType.TheVariants.{Empty, Nodes, DenseNodes, Ways, Relations, Mixed}
+use Rattle.groups.specs.Classify.{kind_number}
 use Rattle.groups.specs.declared.group.MessagePlace.{MessagePlace}
 use Rattle.groups.specs.declared.group.WireMessageIter.{WireMessageIter}
 use Rattle.groups.specs.declared.group.WireMessageIter.TheVariants as iter
@@ -19,14 +19,6 @@ part_words p = flag p.present ∷ p.start ∷ p.len ∷ []
 
 abbrev pub range_words : Part → List ℕ
 range_words p = p.start ∷ p.len ∷ []
-
-abbrev pub kind_number : BlockType → ℕ
-kind_number Empty = 0
-kind_number Nodes = 1
-kind_number DenseNodes = 2
-kind_number Ways = 3
-kind_number Relations = 4
-kind_number Mixed = 5
 
 abbrev pub kind_words : BlockType → List ℕ
 kind_words k = kind_number k ∷ []

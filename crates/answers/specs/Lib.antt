@@ -4,3 +4,4 @@ pub mod Codes
 pub mod Record
 pub mod Group
 pub mod Messages
+pub mod Views

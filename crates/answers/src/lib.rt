@@ -5,6 +5,8 @@
 
 pub mod codes;
 pub mod group;
+pub mod layout;
+pub mod messages;
 pub mod record;
 pub mod step;
 pub mod words;

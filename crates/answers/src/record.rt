@@ -1,28 +1,32 @@
 // The record of a scanned block: its nine numbers, and the record that a slice begins with.
 ghost use Rattle.std.specs.Prelude.{◌≡◌};
+ghost use lib.Dec.{lit<};
 ghost use Rattle.answers.specs.Record.{record_words, record_in};
 
-use crate::words::bits_i32;
-use numbers::little::read_u64;
-use numbers::signed::{bits_i64, int32, int64, is_int32};
+use crate::layout::Layout;
+use numbers::little::Little;
+use numbers::signed::{Signed, is_int32};
 use protobuf::refusal::Refusal;
 use wire::record::WireBlock;
 
-// The record's numbers.
-pub fn record_numbers(r: WireBlock) -> [u64; 9]
-    ensures { result ≡ record_words r }
-{
-    [
-        r.block as u64,
-        r.strings as u64,
-        r.stringtable as u64,
-        r.groups as u64,
-        r.grouptable as u64,
-        bits_i32(r.granularity),
-        bits_i32(r.dategranularity),
-        bits_i64(r.latoffset),
-        bits_i64(r.lonoffset),
-    ]
+impl Layout<9> for WireBlock {
+    ghost words = { record_words };
+
+    ghost few = { lit< tt };
+
+    fn numbers(self) -> [u64; 9] {
+        [
+            self.block as u64,
+            self.strings as u64,
+            self.stringtable as u64,
+            self.groups as u64,
+            self.grouptable as u64,
+            self.granularity.bits(),
+            self.dategranularity.bits(),
+            self.latoffset.bits(),
+            self.lonoffset.bits(),
+        ]
+    }
 }
 
 // The record in the slice's first 72 bytes: 14 where it is shorter or a granularity is no int32.
@@ -32,8 +36,8 @@ pub fn record_in(s: &[u8]) -> Result<WireBlock, Refusal>
     if s.len() < 72 {
         return Err(Refusal::Outside);
     }
-    let granularity = read_u64(s, 40);
-    let dategranularity = read_u64(s, 48);
+    let granularity = u64::read(s, 40);
+    let dategranularity = u64::read(s, 48);
     if !is_int32(granularity) {
         return Err(Refusal::Outside);
     }
@@ -41,14 +45,14 @@ pub fn record_in(s: &[u8]) -> Result<WireBlock, Refusal>
         return Err(Refusal::Outside);
     }
     Ok(WireBlock {
-        block: read_u64(s, 0) as usize,
-        strings: read_u64(s, 8) as usize,
-        stringtable: read_u64(s, 16) as usize,
-        groups: read_u64(s, 24) as usize,
-        grouptable: read_u64(s, 32) as usize,
-        granularity: int32(granularity),
-        dategranularity: int32(dategranularity),
-        latoffset: int64(read_u64(s, 56)),
-        lonoffset: int64(read_u64(s, 64)),
+        block: u64::read(s, 0) as usize,
+        strings: u64::read(s, 8) as usize,
+        stringtable: u64::read(s, 16) as usize,
+        groups: u64::read(s, 24) as usize,
+        grouptable: u64::read(s, 32) as usize,
+        granularity: i32::of_bits(granularity),
+        dategranularity: i32::of_bits(dategranularity),
+        latoffset: i64::of_bits(u64::read(s, 56)),
+        lonoffset: i64::of_bits(u64::read(s, 64)),
     })
 }

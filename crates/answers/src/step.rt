@@ -1,5 +1,6 @@
 // A step over a group's messages of one field, whose state stands in a slot that the caller lends.
 ghost use Rattle.std.specs.Prelude.{◌≡◌};
+ghost use Rattle.answers.specs.Codes.{code_by};
 ghost use Rattle.answers.specs.Messages.{
   place_asked,
   step_state,
@@ -9,51 +10,52 @@ ghost use Rattle.answers.specs.Messages.{
   message_out,
 };
 
-use crate::codes::{ENDED, OUTSIDE};
-use crate::group::{MessagesIn, messages_in, part_numbers, put_iter};
-use crate::words::put_numbers;
+use crate::codes::Stop;
+use crate::group::{MessagesIn, messages_in};
+use crate::layout::Layout;
 use groups::group::{MessagePlace, WireMessageIter};
-use protobuf::refusal::number;
 
 // The step of a state that has not ended: 14 where `out` is too short for a part, then what the iterator answers. The state that it hands
 // back goes into the slot; after 14 for `out` too that is the ended one.
-fn step_message(buffer: &[u8], place: MessagePlace, state: &mut [u8], out: &mut [u8]) -> u32
-    ensures code { result ≡ message_code (place_asked buffer.now out.old place) }
+fn step_message(
+    buffer: &[u8],
+    place: MessagePlace,
+    state: &mut [u8],
+    out: &mut [u8],
+) -> Result<(), Stop>
+    ensures code { code_by result ≡ message_code (place_asked buffer.now out.old place) }
     ensures next { state.new ≡ step_state state.old (place_asked buffer.now out.old place) }
     ensures after { out.new ≡ message_out out.old (place_asked buffer.now out.old place) }
 {
     if out.len() < 24 {
-        put_iter(state, WireMessageIter::Ended);
-        return OUTSIDE;
+        WireMessageIter::Ended.put(state);
+        return Err(Stop::OUTSIDE);
     }
     let iter = WireMessageIter::At(place);
     let step = iter.step(buffer);
-    put_iter(state, step.next);
-    match step.said {
-        Err(n) => number(n),
-        Ok(None) => ENDED,
-        Ok(Some(part)) => {
-            put_numbers(out, &part_numbers(part));
-            0
-        }
-    }
+    step.next.put(state);
+    let Some(part) = step.said? else {
+        return Err(Stop::Ended);
+    };
+    Layout::<3>::put(part, out);
+    Ok(())
 }
 
 // The next message of the state's field, as a part, with the state behind it: 14 where the slot is too short for a state; 101 where it is
 // an ended one, and both leave it as it is. Else 14 where no state has its numbers or `out` is too short for a part, then what the
 // iterator's step refuses, and 101 where it has ended: the slot then holds the ended state, and `out` is as it was.
-pub fn message(buffer: &[u8], state: &mut [u8], out: &mut [u8]) -> u32
-    ensures code { result ≡ message_code (message_asked buffer.now state.old out.old) }
+pub fn message(buffer: &[u8], state: &mut [u8], out: &mut [u8]) -> Result<(), Stop>
+    ensures code { code_by result ≡ message_code (message_asked buffer.now state.old out.old) }
     ensures next { state.new ≡ message_state buffer.now state.old out.old }
     ensures after { out.new ≡ message_out out.old (message_asked buffer.now state.old out.old) }
 {
     let slot = messages_in(state);
     match slot {
-        MessagesIn::Short => OUTSIDE,
-        MessagesIn::Ended => ENDED,
+        MessagesIn::Short => Err(Stop::OUTSIDE),
+        MessagesIn::Ended => Err(Stop::Ended),
         MessagesIn::Outside => {
-            put_iter(state, WireMessageIter::Ended);
-            OUTSIDE
+            WireMessageIter::Ended.put(state);
+            Err(Stop::OUTSIDE)
         }
         MessagesIn::At(place) => step_message(buffer, place, state, out),
     }

@@ -1,17 +1,9 @@
 // Numbers into a slice that the caller lends.
 ghost use Rattle.std.specs.Prelude.{◌≡◌, ◌*◌, ◌≤◌, length};
 ghost use Rattle.numbers.specs.Little.{written};
-ghost use Rattle.answers.specs.Words.{words, filled, filled_at, signed_word};
+ghost use Rattle.answers.specs.Words.{words, filled, filled_at};
 
-use numbers::little::write_u64;
-use numbers::signed::bits_i64;
-
-// A signed number of 32 bits, as its two's complement at 64.
-pub fn bits_i32(x: i32) -> u64
-    ensures { result ≡ signed_word x }
-{
-    bits_i64(x as i64)
-}
+use numbers::little::Little;
 
 // Puts numbers one behind the other into a slice, each where there is room for it. Its caller lends exactly their bytes, so that the compiler
 // knows the slice's length where it knows how many there are, and each number is one store.
@@ -19,10 +11,8 @@ fn put_all(room: &mut [u8], numbers: &[u64])
     requires { 8 * length numbers.now ≤ length room.old }
     ensures { room.new ≡ written room.old 0 (words numbers.now) }
 {
-    let mut i = 0;
-    while i < numbers.len() {
-        write_u64(room, 8 * i, numbers[i]);
-        i += 1;
+    for (i, number) in numbers.iter().enumerate() {
+        (*number).write(room, 8 * i);
     }
 }
 

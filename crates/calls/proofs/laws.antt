@@ -1,5 +1,5 @@
 -- One file of laws for each subject.
-pub mod Calls
+pub mod Items
 pub mod Slots
 pub mod Ended
 pub mod References

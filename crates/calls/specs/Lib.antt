@@ -1,5 +1,5 @@
 -- What a call through C answers and leaves, over any state and any item; then the states and items of references.
 pub mod Calls
-pub mod Filling
+pub mod Items
 pub mod Slots
 pub mod References

@@ -3,6 +3,9 @@
 #![tactic(auto)]
 
 pub mod ended;
+pub mod items;
+pub mod next;
 pub mod references;
 pub mod room;
+pub mod run;
 pub mod slot;

@@ -1,17 +1,6 @@
-// The room of a call for items of one size, and the slice for their count.
-ghost use Rattle.std.specs.Prelude.{◌≡◌, ◌*◌, ◌≤◌, ◌<◌, length, eqb, [], ◌∷◌};
-ghost use Rattle.numbers.specs.Choose.{choose};
-ghost use Rattle.answers.specs.Words.{filled};
+// The room of a call for items of one size.
+ghost use Rattle.std.specs.Prelude.{◌≡◌, ◌*◌, ◌≤◌, length, leb};
 ghost use Rattle.calls.specs.Calls.{one_room, room_for};
-
-use answers::words::put_numbers;
-
-// What a call answers: its code, and how many items it has handed out.
-#[derive(Clone, Copy)]
-pub struct Counted {
-    pub code: u32,
-    pub count: usize,
-}
 
 // Room for one item, or none.
 pub fn one_room(out: &[u8], size: usize) -> usize
@@ -19,6 +8,16 @@ pub fn one_room(out: &[u8], size: usize) -> usize
     ensures fits { size * result ≤ length out.now }
 {
     if out.len() < size { 0 } else { 1 }
+}
+
+// Whether so many fit.
+pub fn has_room(out: &[u8], items: usize, size: usize) -> bool
+    ensures { result ≡ leb (size * items) (length out.now) }
+{
+    match size.checked_mul(items) {
+        Some(bytes) => bytes <= out.len(),
+        None => false,
+    }
 }
 
 // As many items as fit; none where the slice for the count is too short.
@@ -33,13 +32,4 @@ pub fn room_for(out: &[u8], count: &[u8], size: usize) -> usize
         return 0;
     }
     out.len() / size
-}
-
-// Puts the count of items, unless there are none.
-pub fn put_count(count: &mut [u8], items: usize)
-    ensures { count.new ≡ choose (eqb items 0) count.old (filled count.old (items ∷ [])) }
-{
-    if items != 0 {
-        put_numbers(count, &[items as u64]);
-    }
 }

@@ -1,7 +1,7 @@
 -- Worked values: what the definitions here say of concrete bytes and columns, one row for each clause of document 01, section 3, that they
 -- carry. They are proved by computing, so a definition that is changed breaks the row of its clause, whatever the code does. Bytes are
 -- hexadecimal.
-use Rattle.std.specs.Prelude.{ℕ, ◌+◌, ◌-◌, ◌*◌, ◌^◌, ◌≡◌, refl, List, [], ◌∷◌, true, false, pos, negsuc, Ok, Err, Option, Some, None}
+use Rattle.std.specs.Prelude.{ℕ, ◌+◌, ◌-◌, ◌*◌, ◌^◌, ◌≡◌, refl, List, [], ◌∷◌, true, false, pos, negsuc, Ok, Err, Option, Some, None, ℤ}
 use Rattle.protobuf.specs.declared.refusal.Refusal.{Refusal}
 use Rattle.protobuf.specs.declared.refusal.Refusal.TheVariants.{VarintCut, VarintLong, Counts, Outside}
 use Rattle.protobuf.specs.declared.column.Column as state
@@ -14,8 +14,7 @@ use Rattle.fields.specs.Outcome.{Outcome}
 use Rattle.protobuf.specs.Column.{ColumnEnd, ended, cut, Column, value_at, column_from, sums_from}
 use Rattle.fields.specs.Part.{part_by}
 use Rattle.block.specs.Infos as info
-use Rattle.columns.specs.declared.sums.Sum64.{Sum64}
-use Rattle.columns.specs.declared.sums.Sum32.{Sum32}
+use Rattle.columns.specs.declared.sums.Sum.{Sum}
 use Rattle.columns.specs.declared.info_rows.InfoColumns.{InfoColumns}
 use Rattle.columns.specs.InStep.{said_by, in_step, ahead, start_of}
 use Rattle.columns.specs.Inside.{step_inside, column_inside, tags_inside, members_inside, rows_inside, infos_inside, tag_inside, behind_inside, info_inside}
@@ -33,10 +32,10 @@ numbers = ending
 abbrev place : ℕ → ℕ → state.Column
 place at e = record { at = at; end = e }
 
-abbrev summing : ℕ → ℕ → ℕ → Sum64
+abbrev summing : ℕ → ℕ → ℕ → Sum ℤ
 summing at e sum = record { column = place at e; sum = pos sum }
 
-abbrev summing32 : ℕ → ℕ → ℕ → Sum32
+abbrev summing32 : ℕ → ℕ → ℕ → Sum ℤ
 summing32 at e sum = record { column = place at e; sum = pos sum }
 
 -- 2, 4 and 1, and a varint that is cut
@@ -273,7 +272,7 @@ good = place 0 4
 abbrev bad : state.Column
 bad = place 0 5
 
-abbrev sums : state.Column → Sum64
+abbrev sums : state.Column → Sum ℤ
 sums c = record { column = c; sum = pos 0 }
 
 abbrev six : state.Column → state.Column → state.Column → state.Column → state.Column → state.Column → InfoColumns

@@ -3,12 +3,11 @@
 use Rattle.std.specs.Prelude.{ℕ, ◌+◌, ◌/◌, ◌%◌, List, ℤ, Ok, Err, Option, Some, None}
 use Rattle.protobuf.specs.declared.refusal.Refusal.TheVariants.{Counts}
 use Rattle.protobuf.specs.Stream.{end, more}
-use Rattle.protobuf.specs.Column.{ended, cut, Column, int32s, uint32s, sint32s, sint64s, bools, sums_from}
+use Rattle.protobuf.specs.Column.{ended, cut, Column, int32s, uint32s, sints, bools, sums_from}
 use Rattle.numbers.specs.Signed.{zigzag, wrapping_add}
 use Rattle.fields.specs.Outcome.{Outcome}
 use Rattle.block.specs.Infos.{Infos, NextInfo, present, missing, stopped}
-use Rattle.columns.specs.declared.sums.Sum64.{Sum64}
-use Rattle.columns.specs.declared.sums.Sum32.{Sum32}
+use Rattle.columns.specs.declared.sums.Sum.{Sum}
 use Rattle.columns.specs.declared.zip.TagColumns.{TagColumns}
 use Rattle.columns.specs.declared.zip.MemberColumns.{MemberColumns}
 use Rattle.columns.specs.declared.zip.RowColumns.{RowColumns}
@@ -33,22 +32,29 @@ zip (more x xs) (more y ys) = more (both x y) (zip xs ys)
 
 -- ---- running sums: what a step says is the sum of the state behind it
 
-abbrev pub sum64_ahead : List ℕ → Sum64 → Column ℤ
-sum64_ahead s c = sums_from 64 c.sum (sint64s (ahead s c.column))
+-- of differences of w bits, where int is the number that a sum stands for
+abbrev pub sums_ahead : {A : Type 0} → ℕ → (A → ℤ) → List ℕ → Sum A → Column ℤ
+sums_ahead w int s c = sums_from w (int c.sum) (sints w (ahead s c.column))
 
-abbrev pub sum64_said : List ℕ → Outcome (Option Sum64) → Column ℤ
-sum64_said s = said_by (λ c. c.sum) (sum64_ahead s)
+abbrev pub sums_said : {A : Type 0} → ℕ → (A → ℤ) → List ℕ → Outcome (Option (Sum A)) → Column ℤ
+sums_said w int s = said_by (λ c. int c.sum) (sums_ahead w int s)
+
+abbrev pub sum64_ahead : List ℕ → Sum ℤ → Column ℤ
+sum64_ahead = sums_ahead 64 λ z. z
+
+abbrev pub sum32_ahead : List ℕ → Sum ℤ → Column ℤ
+sum32_ahead = sums_ahead 32 λ z. z
+
+abbrev pub sum64_said : List ℕ → Outcome (Option (Sum ℤ)) → Column ℤ
+sum64_said = sums_said 64 λ z. z
+
+abbrev pub sum32_said : List ℕ → Outcome (Option (Sum ℤ)) → Column ℤ
+sum32_said = sums_said 32 λ z. z
 
 -- the state behind a value that a word tells (protobuf/specs/Short)
-abbrev pub moved_sum : Sum64 → ℕ → Sum64
+abbrev pub moved_sum : Sum ℤ → ℕ → Sum ℤ
 moved_sum c word =
     record { column = record { at = c.column.at + word % 16; end = c.column.end }; sum = wrapping_add 64 c.sum (zigzag 64 (word / 16)) }
-
-abbrev pub sum32_ahead : List ℕ → Sum32 → Column ℤ
-sum32_ahead s c = sums_from 32 c.sum (sint32s (ahead s c.column))
-
-abbrev pub sum32_said : List ℕ → Outcome (Option Sum32) → Column ℤ
-sum32_said s = said_by (λ c. c.sum) (sum32_ahead s)
 
 -- ---- keys and vals
 

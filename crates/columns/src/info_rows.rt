@@ -5,8 +5,8 @@ ghost use Rattle.block.specs.Infos.{visible_info, user_info, next_info};
 ghost use Rattle.columns.specs.Inside.{infos_inside, info_inside};
 ghost use Rattle.columns.specs.Zip.{infos_ahead, info_said};
 
-use crate::sums::{Sum32, Sum64, next_sum32, next_sum64};
-use numbers::signed::int32;
+use crate::sums::Sum;
+use numbers::signed::Signed;
 use protobuf::column::{Column, next_value};
 use protobuf::refusal::Refusal;
 
@@ -14,10 +14,10 @@ use protobuf::refusal::Refusal;
 #[derive(Clone, Copy)]
 pub struct InfoColumns {
     pub version: Column,
-    pub timestamp: Sum64,
-    pub changeset: Sum64,
-    pub uid: Sum32,
-    pub user: Sum32,
+    pub timestamp: Sum<i64>,
+    pub changeset: Sum<i64>,
+    pub uid: Sum<i32>,
+    pub user: Sum<i32>,
     pub visible: Column,
 }
 
@@ -37,7 +37,7 @@ fn next_visible(
     ensures says { info_said s.now result ≡ visible_info (twos 32 version) columns.timestamp.sum columns.changeset.sum columns.uid.sum columns.user.sum (infos_ahead s.now columns) }
     ensures inside { infos_inside s.now columns ≡ true → info_inside s.now result ≡ true }
 {
-    let version = int32(version);
+    let version = i32::of_bits(version);
     let mut read = columns;
     let mut visible = true;
     if let Some((value, next)) = next_value(s, columns.visible)? {
@@ -58,11 +58,11 @@ fn next_user(
     ensures inside { infos_inside s.now columns ≡ true → info_inside s.now result ≡ true }
 {
     let mut read = columns;
-    let Some(uid) = next_sum32(s, columns.uid)? else {
+    let Some(uid) = columns.uid.next(s)? else {
         return Ok((None, read));
     };
     read.uid = uid;
-    let Some(user) = next_sum32(s, columns.user)? else {
+    let Some(user) = columns.user.next(s)? else {
         return Ok((None, read));
     };
     read.user = user;
@@ -79,11 +79,11 @@ pub fn next_info(s: &[u8], columns: InfoColumns) -> Result<(Option<Row>, InfoCol
         return Ok((None, read));
     };
     read.version = next;
-    let Some(timestamp) = next_sum64(s, columns.timestamp)? else {
+    let Some(timestamp) = columns.timestamp.next(s)? else {
         return Ok((None, read));
     };
     read.timestamp = timestamp;
-    let Some(changeset) = next_sum64(s, columns.changeset)? else {
+    let Some(changeset) = columns.changeset.next(s)? else {
         return Ok((None, read));
     };
     read.changeset = changeset;

@@ -3,9 +3,9 @@ ghost use Rattle.std.specs.Prelude.{◌≡◌, true};
 ghost use Rattle.columns.specs.Inside.{step_inside, tags_inside, members_inside, rows_inside};
 ghost use Rattle.columns.specs.Zip.{tags_ahead, tags_said, members_ahead, members_said, rows_ahead, rows_said};
 
-use crate::sums::{Sum64, next_sum64};
+use crate::sums::Sum;
 use crate::told::in_step;
-use numbers::signed::int32;
+use numbers::signed::Signed;
 use protobuf::column::{Column, next_value};
 use protobuf::refusal::Refusal;
 
@@ -20,16 +20,16 @@ pub struct TagColumns {
 #[derive(Clone, Copy)]
 pub struct MemberColumns {
     pub roles: Column,
-    pub memids: Sum64,
+    pub memids: Sum<i64>,
     pub types: Column,
 }
 
 // Ids, lats and lons of dense nodes.
 #[derive(Clone, Copy)]
 pub struct RowColumns {
-    pub ids: Sum64,
-    pub lats: Sum64,
-    pub lons: Sum64,
+    pub ids: Sum<i64>,
+    pub lats: Sum<i64>,
+    pub lons: Sum<i64>,
 }
 
 // The next pair of a key and a value, each by its lowest 32 bits, with the columns behind it: 12 where only one of them is there.
@@ -55,7 +55,7 @@ pub fn next_member(
     ensures inside { step_inside (λ r. members_inside s.now r.1) result ≡ true }
 {
     let r = next_value(s, columns.roles);
-    let m = next_sum64(s, columns.memids);
+    let m = columns.memids.next(s);
     let t = next_value(s, columns.types);
     let Some(((role, roles), (memids, (kind, types)))) = in_step(r, in_step(m, t))? else {
         return Ok(None);
@@ -65,7 +65,7 @@ pub fn next_member(
         memids,
         types,
     };
-    Ok(Some(((int32(role), int32(kind)), next)))
+    Ok(Some(((i32::of_bits(role), i32::of_bits(kind)), next)))
 }
 
 // The columns behind the next dense node, whose sums are its id, lat and lon: 12 where only some of them are there.
@@ -73,9 +73,9 @@ pub fn next_row(s: &[u8], columns: RowColumns) -> Result<Option<RowColumns>, Ref
     ensures says { rows_said s.now result ≡ rows_ahead s.now columns }
     ensures inside { step_inside (λ c. rows_inside s.now c) result ≡ true }
 {
-    let i = next_sum64(s, columns.ids);
-    let y = next_sum64(s, columns.lats);
-    let x = next_sum64(s, columns.lons);
+    let i = columns.ids.next(s);
+    let y = columns.lats.next(s);
+    let x = columns.lons.next(s);
     let Some((ids, (lats, lons))) = in_step(i, in_step(y, x))? else {
         return Ok(None);
     };

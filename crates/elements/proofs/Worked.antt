@@ -23,7 +23,7 @@ use Rattle.views.specs.declared.relation.WireRelation.{WireRelation}
 use Rattle.wire.specs.declared.record.WireBlock.{WireBlock}
 use Rattle.wire.specs.Block.{last_of, chosen_table}
 use Rattle.lookup.specs.Lookup.{get_at, string_parts}
-use Rattle.columns.specs.declared.sums.Sum64.{Sum64}
+use Rattle.columns.specs.declared.sums.Sum.{Sum}
 use Rattle.columns.specs.InStep.{ahead, start_of}
 use Rattle.columns.specs.Zip.{zip}
 use Rattle.elements.specs.declared.element.DenseNode.{DenseNode}
@@ -31,16 +31,13 @@ use Rattle.elements.specs.declared.element.NodeInfo.TheVariants as info
 use Rattle.elements.specs.declared.element.Element.TheVariants as element
 use Rattle.elements.specs.declared.tags.TagIter.{TagIter}
 use Rattle.elements.specs.declared.tags.TagIter.TheVariants as tags
-use Rattle.elements.specs.declared.tags.RawTagStep.TheVariants as raw
-use Rattle.elements.specs.declared.tags.TagIterStep.TheVariants as shown
 use Rattle.elements.specs.declared.references.WayRefIter.TheVariants as refs
-use Rattle.elements.specs.declared.references.WayRefStep.TheVariants as ref
 use Rattle.elements.specs.declared.members.MemberId.{MemberId}
 use Rattle.elements.specs.declared.members.MemberId.TheVariants as id
 use Rattle.elements.specs.declared.members.RelMember.{RelMember}
 use Rattle.elements.specs.declared.members.RelMemberIter.{RelMemberIter}
 use Rattle.elements.specs.declared.members.RelMemberIter.TheVariants as members
-use Rattle.elements.specs.declared.members.RelMemberStep.TheVariants as member
+use Rattle.fields.specs.Step.{handed, at_end, refused}
 use Rattle.elements.specs.Tags.{pair_by, pairs_of, tag_by, found_tags, raw_tags_from, tags_by, tags_from, raw_tag_said, tag_said, raw_tag_behind, tag_behind, tags_start}
 use Rattle.elements.specs.References.{refs_from, ref_said, ref_behind, refs_start}
 use Rattle.elements.specs.Members.{id_by, members_by, members_from, member_said, member_behind, members_start, role_at, role_of}
@@ -54,7 +51,7 @@ ending (x ∷ xs) e = more x (ending xs e)
 abbrev place : ℕ → ℕ → state.Column
 place at e = record { at = at; end = e }
 
-abbrev summing : ℕ → ℕ → ℕ → Sum64
+abbrev summing : ℕ → ℕ → ℕ → Sum ℤ
 summing at e sum = record { column = place at e; sum = pos sum }
 
 -- eight bytes, of which the seventh is a varint that is cut, and a table: the texts of 0 and 1, and one that passes the buffer
@@ -114,11 +111,11 @@ pub record Pairs : Type 0 where
   pub bad-key : raw_tags_from buffer (dense 6 7) ≡ end (cut VarintCut)
   pub keys-vals-outside : raw_tags_from buffer (dense 0 33) ≡ end (cut Outside)
   pub ended_state : raw_tags_from buffer tags.Ended ≡ end ended
-  pub said-pair : raw_tag_said buffer (raw.Tag (pair_by 7 8) (dense 2 4)) ≡ ending (pair_by 7 8 ∷ pair_by 2 3 ∷ []) ended
-  pub said-ended : raw_tag_said buffer (raw.Ended (dense 2 4)) ≡ end ended
-  pub said-refused : raw_tag_said buffer (raw.Refused VarintCut (dense 2 4)) ≡ end (cut VarintCut)
-  pub behind-ended : raw_tag_behind (raw.Ended (dense 2 4)) ≡ dense 2 4
-  pub behind-refused : raw_tag_behind (raw.Refused VarintCut (dense 2 4)) ≡ dense 2 4
+  pub said-pair : raw_tag_said buffer (handed (pair_by 7 8) (dense 2 4)) ≡ ending (pair_by 7 8 ∷ pair_by 2 3 ∷ []) ended
+  pub said-ended : raw_tag_said buffer (at_end (dense 2 4)) ≡ end ended
+  pub said-refused : raw_tag_said buffer (refused VarintCut (dense 2 4)) ≡ end (cut VarintCut)
+  pub behind-ended : raw_tag_behind (at_end (dense 2 4)) ≡ dense 2 4
+  pub behind-refused : raw_tag_behind (refused VarintCut (dense 2 4)) ≡ dense 2 4
 
 pub pairs-worked : Pairs
 unfolding and_then digits varint unrolled value_at column_from ahead mapped zip pairs_of raw_tags_from
@@ -162,11 +159,11 @@ pub record Texts : Type 0 where
   pub key_text_outside : tags_from buffer within (columns 2 3 3 4) ≡ end (cut Outside)
   pub value_text_outside : tags_from buffer within (columns 3 4 2 3) ≡ end (cut Outside)
   pub value_text_outside-with_a_key : tags_from buffer within (columns 4 5 2 3) ≡ end (cut Outside)
-  pub said-tag : tag_said buffer within (shown.Tag (tag_by (pair_by 7 8) no_part text_one) (dense 0 2)) ≡ ending (tag_by (pair_by 7 8) no_part text_one ∷ tag_by (pair_by 1 0) text_one (part_by 0 1) ∷ []) ended
-  pub said-ended : tag_said buffer within (shown.Ended (dense 0 2)) ≡ end ended
-  pub said-refused : tag_said buffer within (shown.Refused Counts (dense 0 2)) ≡ end (cut Counts)
-  pub behind-ended : tag_behind (shown.Ended (dense 2 4)) ≡ dense 2 4
-  pub behind-refused : tag_behind (shown.Refused VarintCut (dense 2 4)) ≡ dense 2 4
+  pub said-tag : tag_said buffer within (handed (tag_by (pair_by 7 8) no_part text_one) (dense 0 2)) ≡ ending (tag_by (pair_by 7 8) no_part text_one ∷ tag_by (pair_by 1 0) text_one (part_by 0 1) ∷ []) ended
+  pub said-ended : tag_said buffer within (at_end (dense 0 2)) ≡ end ended
+  pub said-refused : tag_said buffer within (refused Counts (dense 0 2)) ≡ end (cut Counts)
+  pub behind-ended : tag_behind (at_end (dense 2 4)) ≡ dense 2 4
+  pub behind-refused : tag_behind (refused VarintCut (dense 2 4)) ≡ dense 2 4
 
 pub texts-worked : Texts
 unfolding and_then digits varint unrolled value_at column_from ahead mapped zip pairs_of raw_tags_from little number_at get_at found_tags tags_by
@@ -204,11 +201,11 @@ pub record References : Type 0 where
   pub sums_go_on : refs_from steps (refs.Refs (summing 1 3 1)) ≡ ending (pos 2 ∷ pos 1 ∷ []) ended
   pub refs-outside : refs_from steps (refs.Refs (summing 0 4 0)) ≡ end (cut Outside)
   pub ended-over-nothing : refs_from [] refs.Ended ≡ end ended
-  pub said-reference : ref_said steps (ref.Ref (pos 9) (refs.Refs (summing 2 3 2))) ≡ ending (pos 9 ∷ pos 1 ∷ []) ended
-  pub said-ended : ref_said steps (ref.Ended (refs.Refs (summing 2 3 2))) ≡ end ended
-  pub said-refused : ref_said steps (ref.Refused VarintCut (refs.Refs (summing 2 3 2))) ≡ end (cut VarintCut)
-  pub behind-ended : ref_behind (ref.Ended (refs.Refs (summing 2 3 2))) ≡ refs.Refs (summing 2 3 2)
-  pub behind-refused : ref_behind (ref.Refused VarintCut (refs.Refs (summing 2 3 2))) ≡ refs.Refs (summing 2 3 2)
+  pub said-reference : ref_said steps (handed (pos 9) (refs.Refs (summing 2 3 2))) ≡ ending (pos 9 ∷ pos 1 ∷ []) ended
+  pub said-ended : ref_said steps (at_end (refs.Refs (summing 2 3 2))) ≡ end ended
+  pub said-refused : ref_said steps (refused VarintCut (refs.Refs (summing 2 3 2))) ≡ end (cut VarintCut)
+  pub behind-ended : ref_behind (at_end (refs.Refs (summing 2 3 2))) ≡ refs.Refs (summing 2 3 2)
+  pub behind-refused : ref_behind (refused VarintCut (refs.Refs (summing 2 3 2))) ≡ refs.Refs (summing 2 3 2)
 
 pub references-worked : References
 unfolding and_then digits varint unrolled value_at column_from ahead mapped zip signed unzigzag zigzag residue wrap sums_from
@@ -251,11 +248,11 @@ pub record Members : Type 0 where
   pub memids-outside-before_a_bad-role : members_from buffer within (three_columns 6 7 0 33 0 1) ≡ end (cut Outside)
   pub record-outside-before_a_bad-role : members_from buffer outside (three_columns 6 7 2 3 0 1) ≡ end (cut Outside)
   pub ended-over-nothing : members_from [] outside members.Ended ≡ end ended
-  pub said-member : member_said buffer within (member.Member (member_by (pos 9) (id.Node (pos 8))) (three_columns 4 5 2 3 1 2)) ≡ ending (member_by (pos 9) (id.Node (pos 8)) ∷ member_by (pos 1) (id.Node (pos 1)) ∷ []) ended
-  pub said-ended : member_said buffer within (member.Ended (three_columns 4 5 2 3 1 2)) ≡ end ended
-  pub said-refused : member_said buffer within (member.Refused Counts (three_columns 4 5 2 3 1 2)) ≡ end (cut Counts)
-  pub behind-ended : member_behind (member.Ended (three_columns 4 5 2 3 1 2)) ≡ three_columns 4 5 2 3 1 2
-  pub behind-refused : member_behind (member.Refused Counts (three_columns 4 5 2 3 1 2)) ≡ three_columns 4 5 2 3 1 2
+  pub said-member : member_said buffer within (handed (member_by (pos 9) (id.Node (pos 8))) (three_columns 4 5 2 3 1 2)) ≡ ending (member_by (pos 9) (id.Node (pos 8)) ∷ member_by (pos 1) (id.Node (pos 1)) ∷ []) ended
+  pub said-ended : member_said buffer within (at_end (three_columns 4 5 2 3 1 2)) ≡ end ended
+  pub said-refused : member_said buffer within (refused Counts (three_columns 4 5 2 3 1 2)) ≡ end (cut Counts)
+  pub behind-ended : member_behind (at_end (three_columns 4 5 2 3 1 2)) ≡ three_columns 4 5 2 3 1 2
+  pub behind-refused : member_behind (refused Counts (three_columns 4 5 2 3 1 2)) ≡ three_columns 4 5 2 3 1 2
   pub role-below_the_count : role_at buffer within (pos 1) ≡ Ok (Some text_one)
   pub role-at_the_count : role_at buffer within (pos 3) ≡ Ok None
   pub role-below-zero : role_at buffer within (negsuc 0) ≡ Ok None

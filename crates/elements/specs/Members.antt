@@ -4,9 +4,10 @@
 use Rattle.std.specs.Prelude.{ℕ, zero, suc, ◌+◌, List, ℤ, pos, negsuc, Option, None, Ok}
 use Rattle.protobuf.specs.declared.refusal.Refusal.TheVariants.{Outside}
 use Rattle.numbers.specs.Choose.{choose}
-use Rattle.protobuf.specs.Stream.{end, more, mapped}
+use Rattle.protobuf.specs.Stream.{end, mapped}
 use Rattle.protobuf.specs.Column.{ended, cut, Column}
 use Rattle.fields.specs.declared.part.Part.{Part}
+use Rattle.fields.specs.declared.step.Step.{Step}
 use Rattle.fields.specs.Outcome.{Outcome}
 use Rattle.wire.specs.declared.record.WireBlock.{WireBlock}
 use Rattle.lookup.specs.Lookup.{get_at, is_record_inside, string_of}
@@ -21,8 +22,7 @@ use Rattle.elements.specs.declared.members.MemberId.TheVariants as id
 use Rattle.elements.specs.declared.members.RelMember.{RelMember}
 use Rattle.elements.specs.declared.members.RelMemberIter.{RelMemberIter}
 use Rattle.elements.specs.declared.members.RelMemberIter.TheVariants as iter
-use Rattle.elements.specs.declared.members.RelMemberStep.{RelMemberStep}
-use Rattle.elements.specs.declared.members.RelMemberStep.TheVariants as step
+use Rattle.elements.specs.Steps.{step_said, step_behind}
 
 -- 0 is a node, 1 a way, 2 a relation; another type stays with its id
 abbrev pub id_by : ℤ → ℤ → MemberId
@@ -43,15 +43,11 @@ abbrev pub members_from : List ℕ → WireBlock → RelMemberIter → Column Re
 members_from s r iter.Ended = end ended
 members_from s r (iter.Members c) = members_by s r c
 
-abbrev pub member_said : List ℕ → WireBlock → RelMemberStep → Column RelMember
-member_said s r (step.Member member next) = more member (members_from s r next)
-member_said s r (step.Ended next) = end ended
-member_said s r (step.Refused n next) = end (cut n)
+abbrev pub member_said : List ℕ → WireBlock → Step RelMember RelMemberIter → Column RelMember
+member_said s r = step_said (members_from s r)
 
-abbrev pub member_behind : RelMemberStep → RelMemberIter
-member_behind (step.Member member next) = iter.Ended
-member_behind (step.Ended next) = next
-member_behind (step.Refused r next) = next
+abbrev pub member_behind : Step RelMember RelMemberIter → RelMemberIter
+member_behind = step_behind iter.Ended
 
 abbrev pub members_start : Element → RelMemberIter
 members_start (element.DenseNode d) = iter.Ended

@@ -7,6 +7,7 @@ use Rattle.numbers.specs.Choose.{choose}
 use Rattle.protobuf.specs.Stream.{end, more, mapped}
 use Rattle.protobuf.specs.Column.{ended, cut, Column}
 use Rattle.fields.specs.declared.part.Part.{Part}
+use Rattle.fields.specs.declared.step.Step.{Step}
 use Rattle.fields.specs.Outcome.{Outcome}
 use Rattle.wire.specs.declared.record.WireBlock.{WireBlock}
 use Rattle.lookup.specs.Lookup.{get_at, is_record_inside}
@@ -18,11 +19,8 @@ use Rattle.elements.specs.declared.element.Element.TheVariants as element
 use Rattle.elements.specs.declared.tags.TagIter.{TagIter}
 use Rattle.elements.specs.declared.tags.TagIter.TheVariants as iter
 use Rattle.elements.specs.declared.tags.RawTag.{RawTag}
-use Rattle.elements.specs.declared.tags.RawTagStep.{RawTagStep}
-use Rattle.elements.specs.declared.tags.RawTagStep.TheVariants as raw
 use Rattle.elements.specs.declared.tags.Tag.{Tag}
-use Rattle.elements.specs.declared.tags.TagIterStep.{TagIterStep}
-use Rattle.elements.specs.declared.tags.TagIterStep.TheVariants as step
+use Rattle.elements.specs.Steps.{step_said, step_behind}
 
 -- ---- pairs of numbers
 
@@ -87,26 +85,18 @@ tags_from s r (iter.KeysVals c) = tags_by s r (iter.KeysVals c)
 
 -- ---- what a step says, followed by what its next state has ahead
 
-abbrev pub raw_tag_said : List ℕ → RawTagStep → Column RawTag
-raw_tag_said s (raw.Tag tag next) = more tag (raw_tags_from s next)
-raw_tag_said s (raw.Ended next) = end ended
-raw_tag_said s (raw.Refused r next) = end (cut r)
+abbrev pub raw_tag_said : List ℕ → Step RawTag TagIter → Column RawTag
+raw_tag_said s = step_said (raw_tags_from s)
 
-abbrev pub tag_said : List ℕ → WireBlock → TagIterStep → Column Tag
-tag_said s r (step.Tag tag next) = more tag (tags_from s r next)
-tag_said s r (step.Ended next) = end ended
-tag_said s r (step.Refused n next) = end (cut n)
+abbrev pub tag_said : List ℕ → WireBlock → Step Tag TagIter → Column Tag
+tag_said s r = step_said (tags_from s r)
 
 -- the state behind an answer that hands out nothing is the ended one
-abbrev pub raw_tag_behind : RawTagStep → TagIter
-raw_tag_behind (raw.Tag tag next) = iter.Ended
-raw_tag_behind (raw.Ended next) = next
-raw_tag_behind (raw.Refused r next) = next
+abbrev pub raw_tag_behind : Step RawTag TagIter → TagIter
+raw_tag_behind = step_behind iter.Ended
 
-abbrev pub tag_behind : TagIterStep → TagIter
-tag_behind (step.Tag tag next) = iter.Ended
-tag_behind (step.Ended next) = next
-tag_behind (step.Refused r next) = next
+abbrev pub tag_behind : Step Tag TagIter → TagIter
+tag_behind = step_behind iter.Ended
 
 -- ---- at an element
 

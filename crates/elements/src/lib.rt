@@ -7,4 +7,5 @@ pub mod element;
 pub mod members;
 pub mod positions;
 pub mod references;
+mod steps;
 pub mod tags;

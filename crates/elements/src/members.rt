@@ -3,19 +3,22 @@
 // are cut or too long (2, 3), and columns of different counts (12).
 ghost use Rattle.std.specs.Prelude.{◌≡◌, List, ℕ, take};
 ghost use Rattle.wire.specs.Scan.{Scanned-as};
+ghost use Rattle.columns.specs.InStep.{said_by};
 ghost use Rattle.elements.specs.Members.{id_by, members_by, members_from, member_said, member_behind, members_start, role_at, role_of};
 
 use crate::element::Element;
+use crate::steps::step_of;
 use columns::inside::are_members_inside;
 use columns::reader::start_column;
-use columns::sums::start_sum64;
+use columns::sums::Sum;
 use columns::zip::{MemberColumns, next_member};
 use fields::part::Part;
+use fields::step::Step;
 use lookup::by_number::{get, is_inside};
 use protobuf::refusal::Refusal;
 use wire::record::WireBlock;
 
-#[derive(Clone, Copy)]
+#[derive(Clone, Copy, PartialEq)]
 pub enum MemberId {
     Node(i64),
     Way(i64),
@@ -35,21 +38,6 @@ pub enum RelMemberIter {
     Members(MemberColumns),
 }
 
-#[derive(Clone, Copy)]
-pub enum RelMemberStep {
-    Member {
-        member: RelMember,
-        next: RelMemberIter,
-    },
-    Ended {
-        next: RelMemberIter,
-    },
-    Refused {
-        refusal: Refusal,
-        next: RelMemberIter,
-    },
-}
-
 // An id by the member's type.
 fn member_id(kind: i32, id: i64) -> MemberId
     ensures { result ≡ id_by kind id }
@@ -62,38 +50,26 @@ fn member_id(kind: i32, id: i64) -> MemberId
     }
 }
 
-// The next member of columns over a record: 14 unless the record and then all three columns are inside, then what the columns say.
-fn next_of(buffer: &[u8], block: WireBlock, columns: MemberColumns) -> RelMemberStep
-    ensures says { member_said buffer.now block result ≡ members_by buffer.now block columns }
-    ensures behind { member_behind result ≡ RelMemberIter.Ended }
+// The next member of columns over a record, with the state behind it: 14 unless the record and then all three columns are inside, then what
+// the columns say.
+fn next_of(
+    buffer: &[u8],
+    block: WireBlock,
+    columns: MemberColumns,
+) -> Result<Option<(RelMember, RelMemberIter)>, Refusal>
+    ensures { said_by (λ x. x.0) (λ x. members_from buffer.now block x.1) result ≡ members_by buffer.now block columns }
 {
-    let ended = RelMemberIter::Ended;
     if !is_inside(buffer, block) {
-        return RelMemberStep::Refused {
-            refusal: Refusal::Outside,
-            next: ended,
-        };
+        return Err(Refusal::Outside);
     }
     if !are_members_inside(buffer, columns) {
-        return RelMemberStep::Refused {
-            refusal: Refusal::Outside,
-            next: ended,
-        };
+        return Err(Refusal::Outside);
     }
-    match next_member(buffer, columns) {
-        Err(refusal) => RelMemberStep::Refused {
-            refusal,
-            next: ended,
-        },
-        Ok(None) => RelMemberStep::Ended { next: ended },
-        Ok(Some(((role, kind), next))) => RelMemberStep::Member {
-            member: RelMember {
-                role,
-                id: member_id(kind, next.memids.sum),
-            },
-            next: RelMemberIter::Members(next),
-        },
-    }
+    let Some(((role, kind), next)) = next_member(buffer, columns)? else {
+        return Ok(None);
+    };
+    let id = member_id(kind, next.memids.sum);
+    Ok(Some((RelMember { role, id }, RelMemberIter::Members(next))))
 }
 
 impl RelMemberIter {
@@ -105,31 +81,26 @@ impl RelMemberIter {
             Element::DenseNode(_) => RelMemberIter::Ended,
             Element::Node(_) => RelMemberIter::Ended,
             Element::Way(_) => RelMemberIter::Ended,
-            Element::Relation(v) => {
-                let roles = v.roles;
-                let memids = v.memids;
-                let types = v.types;
-                RelMemberIter::Members(MemberColumns {
-                    roles: start_column(roles),
-                    memids: start_sum64(memids),
-                    types: start_column(types),
-                })
-            }
+            Element::Relation(v) => RelMemberIter::Members(MemberColumns {
+                roles: start_column(v.roles),
+                memids: Sum::start(v.memids),
+                types: start_column(v.types),
+            }),
         }
     }
 
     // The next member with the state behind it: 14 unless the record is inside the buffer and then all three columns are, then 2 and 3 of
     // the varints, then 12 where the counts differ. Behind ended and behind a refusal the state is the ended one, and a step on that says
     // ended whatever the buffer and the record are.
-    pub fn step(self, buffer: &[u8], block: WireBlock) -> RelMemberStep
+    pub fn step(self, buffer: &[u8], block: WireBlock) -> Step<RelMember, RelMemberIter>
         ensures says { member_said buffer.now block result ≡ members_from buffer.now block self }
         ensures behind { member_behind result ≡ RelMemberIter.Ended }
     {
         match self {
-            RelMemberIter::Ended => RelMemberStep::Ended {
-                next: RelMemberIter::Ended,
-            },
-            RelMemberIter::Members(columns) => next_of(buffer, block, columns),
+            RelMemberIter::Ended => step_of(Ok(None), self),
+            RelMemberIter::Members(columns) => {
+                step_of(next_of(buffer, block, columns), RelMemberIter::Ended)
+            }
         }
     }
 }

@@ -1,42 +1,29 @@
 // The references of a way: WayRefIter of the Rust, the running sums of refs. A step refuses a column that is not inside the buffer, and
 // varints that are cut or too long.
 ghost use Rattle.std.specs.Prelude.{◌≡◌};
+ghost use Rattle.columns.specs.InStep.{said_by};
 ghost use Rattle.elements.specs.References.{refs_from, ref_said, ref_behind, refs_start};
 
 use crate::element::Element;
-use columns::sums::{Sum64, next_sum64, start_sum64};
+use crate::steps::step_of;
+use columns::sums::Sum;
+use fields::step::Step;
 use protobuf::refusal::Refusal;
 
 #[derive(Clone, Copy)]
 pub enum WayRefIter {
     Ended,
-    Refs(Sum64),
+    Refs(Sum<i64>),
 }
 
-#[derive(Clone, Copy)]
-pub enum WayRefStep {
-    Ref { id: i64, next: WayRefIter },
-    Ended { next: WayRefIter },
-    Refused { refusal: Refusal, next: WayRefIter },
-}
-
-// The next reference of a way's column: 14 where it is outside the buffer, then 2 and 3 of the varint.
-fn next_ref(buffer: &[u8], at: Sum64) -> WayRefStep
-    ensures says { ref_said buffer.now result ≡ refs_from buffer.now (WayRefIter.Refs at) }
-    ensures behind { ref_behind result ≡ WayRefIter.Ended }
+// The next reference of a way's column, with the state behind it: 14 where the column is outside the buffer, then 2 and 3 of the varint.
+fn next_ref(buffer: &[u8], at: Sum<i64>) -> Result<Option<(i64, WayRefIter)>, Refusal>
+    ensures { said_by (λ x. x.0) (λ x. refs_from buffer.now x.1) result ≡ refs_from buffer.now (WayRefIter.Refs at) }
 {
-    let ended = WayRefIter::Ended;
-    match next_sum64(buffer, at) {
-        Err(refusal) => WayRefStep::Refused {
-            refusal,
-            next: ended,
-        },
-        Ok(None) => WayRefStep::Ended { next: ended },
-        Ok(Some(next)) => WayRefStep::Ref {
-            id: next.sum,
-            next: WayRefIter::Refs(next),
-        },
-    }
+    let Some(next) = at.next(buffer)? else {
+        return Ok(None);
+    };
+    Ok(Some((next.sum, WayRefIter::Refs(next))))
 }
 
 impl WayRefIter {
@@ -47,25 +34,20 @@ impl WayRefIter {
         match element {
             Element::DenseNode(_) => WayRefIter::Ended,
             Element::Node(_) => WayRefIter::Ended,
-            Element::Way(v) => {
-                let refs = v.refs;
-                WayRefIter::Refs(start_sum64(refs))
-            }
+            Element::Way(v) => WayRefIter::Refs(Sum::start(v.refs)),
             Element::Relation(_) => WayRefIter::Ended,
         }
     }
 
     // The next reference with the state behind it: 14 where the state's column is outside the buffer, then 2 and 3 of its varints. Behind
     // ended and behind a refusal the state is the ended one, and a step on that says ended whatever the buffer is.
-    pub fn step(self, buffer: &[u8]) -> WayRefStep
+    pub fn step(self, buffer: &[u8]) -> Step<i64, WayRefIter>
         ensures says { ref_said buffer.now result ≡ refs_from buffer.now self }
         ensures behind { ref_behind result ≡ WayRefIter.Ended }
     {
         match self {
-            WayRefIter::Ended => WayRefStep::Ended {
-                next: WayRefIter::Ended,
-            },
-            WayRefIter::Refs(at) => next_ref(buffer, at),
+            WayRefIter::Ended => step_of(Ok(None), self),
+            WayRefIter::Refs(at) => step_of(next_ref(buffer, at), WayRefIter::Ended),
         }
     }
 }

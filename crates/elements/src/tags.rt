@@ -3,15 +3,20 @@
 // (`step`), up to the first pair with a number that has no text. A step refuses a record, columns or a text that are not inside the buffer
 // (14), varints that are cut or too long and a dense value that is missing (2, 3), and keys and vals of different counts (12).
 ghost use Rattle.std.specs.Prelude.{◌≡◌};
+ghost use Rattle.protobuf.specs.Column as protobuf;
+ghost use Rattle.columns.specs.InStep.{said_by};
 ghost use Rattle.lookup.specs.Lookup.{get_at};
+ghost use Rattle.elements.specs.Steps.{said_then};
 ghost use Rattle.elements.specs.Tags.{tag_then, raw_tags_from, tags_by, tags_from, raw_tag_said, tag_said, raw_tag_behind, tag_behind, keys_and_vals, tags_start};
 
 use crate::element::Element;
+use crate::steps::step_of;
 use columns::inside::are_tags_inside;
 use columns::keys_vals::next_dense_tag;
 use columns::reader::start_column;
 use columns::zip::{TagColumns, next_tag};
 use fields::part::Part;
+use fields::step::Step;
 use lookup::by_number::{get, is_inside};
 use protobuf::column::Column;
 use protobuf::refusal::Refusal;
@@ -31,26 +36,12 @@ pub struct RawTag {
     pub value: u64,
 }
 
-#[derive(Clone, Copy)]
-pub enum RawTagStep {
-    Tag { tag: RawTag, next: TagIter },
-    Ended { next: TagIter },
-    Refused { refusal: Refusal, next: TagIter },
-}
-
 // The same with the parts that their texts stand in.
 #[derive(Clone, Copy)]
 pub struct Tag {
     pub raw: RawTag,
     pub key: Part,
     pub value: Part,
-}
-
-#[derive(Clone, Copy)]
-pub enum TagIterStep {
-    Tag { tag: Tag, next: TagIter },
-    Ended { next: TagIter },
-    Refused { refusal: Refusal, next: TagIter },
 }
 
 fn columns_of(keys: Part, vals: Part) -> TagIter
@@ -62,85 +53,47 @@ fn columns_of(keys: Part, vals: Part) -> TagIter
     })
 }
 
-// The next pair of keys and vals: 14 unless both are inside, before either is read.
-fn next_of_columns(buffer: &[u8], columns: TagColumns) -> RawTagStep
-    ensures says { raw_tag_said buffer.now result ≡ raw_tags_from buffer.now (TagIter.Columns columns) }
-    ensures behind { raw_tag_behind result ≡ TagIter.Ended }
+// The next pair of keys and vals, with the state behind it: 14 unless both are inside, before either is read.
+fn next_of_columns(buffer: &[u8], columns: TagColumns) -> Result<Option<(RawTag, TagIter)>, Refusal>
+    ensures { said_by (λ x. x.0) (λ x. raw_tags_from buffer.now x.1) result ≡ raw_tags_from buffer.now (TagIter.Columns columns) }
 {
-    let ended = TagIter::Ended;
     if !are_tags_inside(buffer, columns) {
-        return RawTagStep::Refused {
-            refusal: Refusal::Outside,
-            next: ended,
-        };
+        return Err(Refusal::Outside);
     }
-    match next_tag(buffer, columns) {
-        Err(refusal) => RawTagStep::Refused {
-            refusal,
-            next: ended,
-        },
-        Ok(None) => RawTagStep::Ended { next: ended },
-        Ok(Some(((key, value), next))) => RawTagStep::Tag {
-            tag: RawTag {
-                key: key as u64,
-                value: value as u64,
-            },
-            next: TagIter::Columns(next),
-        },
-    }
+    let Some(((key, value), next)) = next_tag(buffer, columns)? else {
+        return Ok(None);
+    };
+    let raw = RawTag {
+        key: key as u64,
+        value: value as u64,
+    };
+    Ok(Some((raw, TagIter::Columns(next))))
 }
 
 // The next pair of a dense node. Of its one column the reader itself tests that it is inside.
-fn next_of_dense(buffer: &[u8], column: Column) -> RawTagStep
-    ensures says { raw_tag_said buffer.now result ≡ raw_tags_from buffer.now (TagIter.KeysVals column) }
-    ensures behind { raw_tag_behind result ≡ TagIter.Ended }
+fn next_of_dense(buffer: &[u8], column: Column) -> Result<Option<(RawTag, TagIter)>, Refusal>
+    ensures { said_by (λ x. x.0) (λ x. raw_tags_from buffer.now x.1) result ≡ raw_tags_from buffer.now (TagIter.KeysVals column) }
 {
-    let ended = TagIter::Ended;
-    match next_dense_tag(buffer, column) {
-        Err(refusal) => RawTagStep::Refused {
-            refusal,
-            next: ended,
-        },
-        Ok((None, _)) => RawTagStep::Ended { next: ended },
-        Ok((Some((key, value)), next)) => RawTagStep::Tag {
-            tag: RawTag { key, value },
-            next: TagIter::KeysVals(next),
-        },
-    }
+    let (pair, next) = next_dense_tag(buffer, column)?;
+    let Some((key, value)) = pair else {
+        return Ok(None);
+    };
+    Ok(Some((RawTag { key, value }, TagIter::KeysVals(next))))
 }
 
 // A pair with its two texts: 14 of either comes before the end, which is where one of them has none.
-fn look_up(buffer: &[u8], block: WireBlock, raw: RawTag, next: TagIter) -> TagIterStep
-    ensures says { tag_said buffer.now block result ≡ tag_then raw (get_at buffer.now block raw.key) (get_at buffer.now block raw.value) (tags_from buffer.now block next) }
-    ensures behind { tag_behind result ≡ TagIter.Ended }
+fn look_up(buffer: &[u8], block: WireBlock, raw: RawTag) -> Result<Option<Tag>, Refusal>
+    ensures { (others : protobuf.Column Tag) → said_then result others ≡ tag_then raw (get_at buffer.now block raw.key) (get_at buffer.now block raw.value) others }
 {
-    let ended = TagIter::Ended;
-    let k = get(buffer, block, raw.key as usize);
-    let v = get(buffer, block, raw.value as usize);
-    match k {
-        Err(refusal) => TagIterStep::Refused {
-            refusal,
-            next: ended,
-        },
-        Ok(None) => match v {
-            Err(refusal) => TagIterStep::Refused {
-                refusal,
-                next: ended,
-            },
-            Ok(_) => TagIterStep::Ended { next: ended },
-        },
-        Ok(Some(key)) => match v {
-            Err(refusal) => TagIterStep::Refused {
-                refusal,
-                next: ended,
-            },
-            Ok(None) => TagIterStep::Ended { next: ended },
-            Ok(Some(value)) => TagIterStep::Tag {
-                tag: Tag { raw, key, value },
-                next,
-            },
-        },
-    }
+    let key = get(buffer, block, raw.key as usize)?;
+    let value = get(buffer, block, raw.value as usize)?;
+    let Some(key) = key else {
+        return Ok(None);
+    };
+    let Some(value) = value else {
+        return Ok(None);
+    };
+    Ok(Some(Tag { raw, key, value }))
 }
 
 impl TagIter {
@@ -149,80 +102,60 @@ impl TagIter {
         ensures { result ≡ tags_start element }
     {
         match element {
-            Element::DenseNode(d) => {
-                let tags = d.tags;
-                TagIter::KeysVals(tags)
-            }
-            Element::Node(v) => {
-                let keys = v.keys;
-                let vals = v.vals;
-                columns_of(keys, vals)
-            }
-            Element::Way(v) => {
-                let keys = v.keys;
-                let vals = v.vals;
-                columns_of(keys, vals)
-            }
-            Element::Relation(v) => {
-                let keys = v.keys;
-                let vals = v.vals;
-                columns_of(keys, vals)
-            }
+            Element::DenseNode(d) => TagIter::KeysVals(d.tags),
+            Element::Node(v) => columns_of(v.keys, v.vals),
+            Element::Way(v) => columns_of(v.keys, v.vals),
+            Element::Relation(v) => columns_of(v.keys, v.vals),
+        }
+    }
+
+    // The next pair of numbers, with the state behind it.
+    fn next_pair(self, buffer: &[u8]) -> Result<Option<(RawTag, TagIter)>, Refusal>
+        ensures { said_by (λ x. x.0) (λ x. raw_tags_from buffer.now x.1) result ≡ raw_tags_from buffer.now self }
+    {
+        match self {
+            TagIter::Ended => Ok(None),
+            TagIter::Columns(c) => next_of_columns(buffer, c),
+            TagIter::KeysVals(c) => next_of_dense(buffer, c),
         }
     }
 
     // The next pair of numbers with the state behind it: 14 unless all columns of the state are inside the buffer, then 2 and 3 of the
     // varints, then 12 where keys and vals have different counts; of a dense node 2 where a key has no value. Behind ended and behind a
     // refusal the state is the ended one, and a step on that says ended whatever the buffer is.
-    pub fn step_raw(self, buffer: &[u8]) -> RawTagStep
+    pub fn step_raw(self, buffer: &[u8]) -> Step<RawTag, TagIter>
         ensures says { raw_tag_said buffer.now result ≡ raw_tags_from buffer.now self }
         ensures behind { raw_tag_behind result ≡ TagIter.Ended }
     {
-        match self {
-            TagIter::Ended => RawTagStep::Ended {
-                next: TagIter::Ended,
-            },
-            TagIter::Columns(c) => next_of_columns(buffer, c),
-            TagIter::KeysVals(c) => next_of_dense(buffer, c),
-        }
+        step_of(self.next_pair(buffer), TagIter::Ended)
     }
 
     // The same with the texts, of a state that has not ended: 14 unless the record is inside, before the state is looked at.
-    fn with_texts(self, buffer: &[u8], block: WireBlock) -> TagIterStep
-        ensures says { tag_said buffer.now block result ≡ tags_by buffer.now block self }
-        ensures behind { tag_behind result ≡ TagIter.Ended }
+    fn with_texts(self, buffer: &[u8], block: WireBlock) -> Result<Option<(Tag, TagIter)>, Refusal>
+        ensures { said_by (λ x. x.0) (λ x. tags_from buffer.now block x.1) result ≡ tags_by buffer.now block self }
     {
-        let ended = TagIter::Ended;
         if !is_inside(buffer, block) {
-            return TagIterStep::Refused {
-                refusal: Refusal::Outside,
-                next: ended,
-            };
+            return Err(Refusal::Outside);
         }
-        let r = self.step_raw(buffer);
-        match r {
-            RawTagStep::Refused { refusal, next: _ } => TagIterStep::Refused {
-                refusal,
-                next: ended,
-            },
-            RawTagStep::Ended { next: _ } => TagIterStep::Ended { next: ended },
-            RawTagStep::Tag { tag, next } => look_up(buffer, block, tag, next),
-        }
+        let Some((raw, next)) = self.next_pair(buffer)? else {
+            return Ok(None);
+        };
+        let Some(tag) = look_up(buffer, block, raw)? else {
+            return Ok(None);
+        };
+        Ok(Some((tag, next)))
     }
 
     // The next pair with its two texts and the state behind it: 14 unless the record is inside the buffer, then what `step_raw` refuses, then
     // 14 where an entry of the table names a text outside the buffer. It says ended at the first pair with a number that has no text. Behind
     // ended and behind a refusal the state is the ended one, and a step on that says ended whatever the buffer and the record are.
-    pub fn step(self, buffer: &[u8], block: WireBlock) -> TagIterStep
+    pub fn step(self, buffer: &[u8], block: WireBlock) -> Step<Tag, TagIter>
         ensures says { tag_said buffer.now block result ≡ tags_from buffer.now block self }
         ensures behind { tag_behind result ≡ TagIter.Ended }
     {
         match self {
-            TagIter::Ended => TagIterStep::Ended {
-                next: TagIter::Ended,
-            },
-            TagIter::Columns(_) => self.with_texts(buffer, block),
-            TagIter::KeysVals(_) => self.with_texts(buffer, block),
+            TagIter::Ended => step_of(Ok(None), self),
+            _ => step_of(self.with_texts(buffer, block), TagIter::Ended),
         }
     }
 }

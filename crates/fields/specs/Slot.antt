@@ -1,6 +1,6 @@
 -- What an occurrence of a field does to its slot, by the rule that a view answers to its tag. The code keeps the slots in an array, by
 -- place.
-use Rattle.std.specs.Prelude.{ℕ, List, [], ◌∷◌, false, eqb, Ok}
+use Rattle.std.specs.Prelude.{ℕ, List, [], ◌∷◌, false, eqb, Option, Some, None}
 use Rattle.numbers.specs.Choose.{choose}
 use Rattle.message.specs.declared.payload.Payload.{Payload}
 use Rattle.protobuf.specs.declared.tag.Tag.{Tag}
@@ -23,24 +23,25 @@ rule_for (row ∷ rows) t =
     choose (choose (eqb t.field row.field) (takes row.kind t.wire) false) (row ∷ []) (rule_for rows t)
 
 -- the row of a rule, which names the place
-abbrev pub rule_by : Rule → List Row
-rule_by (rule.Scalar k) = row (placed k) scalar ∷ []
-rule_by (rule.Column k) = row (placed k) column ∷ []
-rule_by (rule.Message k) = row (placed k) submessage ∷ []
-rule_by (rule.Bytes k) = row (placed k) bytes ∷ []
-rule_by rule.Pass = []
+abbrev pub row_of : Rule → Row
+row_of (rule.Scalar k) = row (placed k) scalar
+row_of (rule.Column k) = row (placed k) column
+row_of (rule.Message k) = row (placed k) submessage
+row_of (rule.Bytes k) = row (placed k) bytes
 
--- the place that a rule names: of a field that is passed over, one that no field has
+-- the row of what a view answers: none where a field is passed over
+abbrev pub rule_by : Option Rule → List Row
+rule_by None = []
+rule_by (Some t) = row_of t ∷ []
+
 abbrev pub place_of : Rule → ℕ
 place_of (rule.Scalar k) = k
 place_of (rule.Column k) = k
 place_of (rule.Message k) = k
 place_of (rule.Bytes k) = k
-place_of rule.Pass = 0
 
 abbrev pub put_by : Rule → Slot → Payload → Outcome Slot
 put_by (rule.Scalar k) old p = put scalar old p
 put_by (rule.Column k) old p = put column old p
 put_by (rule.Message k) old p = put submessage old p
 put_by (rule.Bytes k) old p = put bytes old p
-put_by rule.Pass old p = Ok old

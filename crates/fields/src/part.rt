@@ -1,5 +1,5 @@
 // A part of the bytes, everywhere the same: present or not, start and length, 0 and 0 where not present. Whether it fits, and its
-// bytes.
+// bytes. It is a flag beside two numbers, and no Option, since so it passes through C.
 ghost use Rattle.std.specs.Prelude.{◌≡◌, ◌+◌, leb};
 ghost use Rattle.fields.specs.Part.{bytes_of, stands_at};
 

@@ -1,5 +1,6 @@
 // The tags of osmformat.proto's fields that a view takes: the field number times 8 plus the wire type, as the file's text and document 01
-// name them. A column may be packed (`KEYS`) or a single value (`KEYS_ONE`).
+// name them. A column may be packed (`KEYS`) or a single value (`KEYS_ONE`). They are constants, message by message, that each view's match
+// names: an enum of them would write the table a second time.
 
 pub mod primitive_block {
     pub const STRING_TABLE: u32 = 1 * 8 + 2;

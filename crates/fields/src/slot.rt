@@ -1,10 +1,11 @@
 // A field's slot: the number that was read last and the part that stands for the field; and what one occurrence of the field does to it.
 ghost use Rattle.std.specs.Prelude.{◌≡◌};
-ghost use Rattle.message.specs.Payload.{payload_of};
-ghost use Rattle.fields.specs.View.{column, submessage, put};
+ghost use Rattle.fields.specs.View.{column, submessage, put, slot_by};
+ghost use Rattle.fields.specs.Part.{part_by};
 ghost use Rattle.fields.specs.Slot.{put_by, place_of};
 
 use crate::part::Part;
+use message::payload::Payload;
 use protobuf::refusal::Refusal;
 
 // The number that was read last, and the part that stands for the field.
@@ -14,90 +15,87 @@ pub struct Slot {
     pub part: Part,
 }
 
-// What a view makes of a field, and the place of its slot.
+// What a view makes of a field that it takes, and the place of its slot.
 #[derive(Clone, Copy)]
 pub enum Rule {
     Scalar(usize),
     Column(usize),
     Message(usize),
     Bytes(usize),
-    Pass,
+}
+
+impl Rule {
+    // The place that it names.
+    pub fn place(self) -> usize
+        ensures { result ≡ place_of self }
+    {
+        match self {
+            Rule::Scalar(k) => k,
+            Rule::Column(k) => k,
+            Rule::Message(k) => k,
+            Rule::Bytes(k) => k,
+        }
+    }
+}
+
+// The slot of a field that was read: its number, and the raw bytes as its part.
+fn read_slot(raw: Payload) -> Slot
+    ensures { result ≡ slot_by raw.value (part_by raw.start raw.len) }
+{
+    let part = Part {
+        present: true,
+        start: raw.start,
+        len: raw.len,
+    };
+    Slot {
+        value: raw.value,
+        part,
+    }
 }
 
 // An occurrence of a column: an empty one is ignored, and 9 where there was one that is not.
 #[tactic(auto, unfolding(crate::specs::View::put, crate::specs::View::column_part, crate::specs::Outcome::each))]
-fn put_column(old: Slot, value: u64, start: usize, len: usize) -> Result<Slot, Refusal>
-    ensures { result ≡ put column old (payload_of value start len) }
+fn put_column(old: Slot, raw: Payload) -> Result<Slot, Refusal>
+    ensures { result ≡ put column old raw }
 {
-    let part = old.part;
-    if len == 0 {
-        return Ok(Slot { value, part });
+    if raw.len == 0 {
+        return Ok(Slot {
+            value: raw.value,
+            ..old
+        });
     }
-    if part.present {
+    if old.part.present {
         return Err(Refusal::SecondColumn);
     }
-    let part = Part {
-        present: true,
-        start,
-        len,
-    };
-    Ok(Slot { value, part })
+    Ok(read_slot(raw))
 }
 
 // An occurrence of an Info: it replaces an empty one; behind one that is not, an empty one is ignored, and another is 10.
 #[tactic(auto, unfolding(crate::specs::View::put, crate::specs::View::info_part, crate::specs::Outcome::each))]
-fn put_message(old: Slot, value: u64, start: usize, len: usize) -> Result<Slot, Refusal>
-    ensures { result ≡ put submessage old (payload_of value start len) }
+fn put_message(old: Slot, raw: Payload) -> Result<Slot, Refusal>
+    ensures { result ≡ put submessage old raw }
 {
-    let part = old.part;
-    if part.len == 0 {
-        let part = Part {
-            present: true,
-            start,
-            len,
-        };
-        return Ok(Slot { value, part });
+    if old.part.len == 0 {
+        return Ok(read_slot(raw));
     }
-    if len == 0 {
-        return Ok(Slot { value, part });
+    if raw.len == 0 {
+        return Ok(Slot {
+            value: raw.value,
+            ..old
+        });
     }
     Err(Refusal::SecondInfo)
 }
 
 // One field's slot: of a number or of bytes, the last one stands.
 #[tactic(auto, unfolding(crate::specs::View::put))]
-pub fn put_slot(
-    rule: Rule,
-    old: Slot,
-    value: u64,
-    start: usize,
-    len: usize,
-) -> Result<Slot, Refusal>
-    ensures { result ≡ put_by rule old (payload_of value start len) }
-{
-    let part = Part {
-        present: true,
-        start,
-        len,
-    };
-    match rule {
-        Rule::Pass => Ok(old),
-        Rule::Column(_) => put_column(old, value, start, len),
-        Rule::Message(_) => put_message(old, value, start, len),
-        Rule::Scalar(_) => Ok(Slot { value, part }),
-        Rule::Bytes(_) => Ok(Slot { value, part }),
-    }
-}
-
-// The place that a rule names: of a field that is passed over, 0, which no field has.
-pub fn place(rule: Rule) -> usize
-    ensures { result ≡ place_of rule }
+pub fn put_slot(rule: Rule, old: Slot, raw: Payload) -> Result<Slot, Refusal>
+    ensures { result ≡ put_by rule old raw }
 {
     match rule {
-        Rule::Scalar(k) => k,
-        Rule::Column(k) => k,
-        Rule::Message(k) => k,
-        Rule::Bytes(k) => k,
-        Rule::Pass => 0,
+        Rule::Column(_) => put_column(old, raw),
+        Rule::Message(_) => put_message(old, raw),
+        Rule::Scalar(_) => Ok(read_slot(raw)),
+        Rule::Bytes(_) => Ok(read_slot(raw)),
     }
 }

@@ -15,7 +15,7 @@ use Rattle.fields.specs.Step.{handed, at_end, refused}
 use Rattle.groups.specs.declared.classify.BlockType.TheVariants.{Empty, Nodes, DenseNodes, Ways, Relations, Mixed}
 use Rattle.groups.specs.declared.group.WireMessageIter.{WireMessageIter}
 use Rattle.groups.specs.declared.group.WireMessageIter.TheVariants as iter
-use Rattle.groups.specs.Classify.{block_type}
+use Rattle.groups.specs.Classify.{block_type, kind_number}
 use Rattle.groups.specs.Group.{MessageStep, dense_from, dense_in, first_part, fresh_iter, message_at, message_step}
 
 -- what `dense` answers
@@ -48,6 +48,13 @@ pub record Worked : Type 0 where
   pub kind-dense-number : block_type (0x10 ∷ []) ≡ Mixed
   pub kind-two-bytes : block_type (0x8A ∷ 0x01 ∷ []) ≡ Mixed
   pub kind-first : block_type (0x12 ∷ 0x00 ∷ 0x0A ∷ 0x00 ∷ []) ≡ DenseNodes
+  -- and its number
+  pub number-empty : kind_number Empty ≡ 0
+  pub number-nodes : kind_number Nodes ≡ 1
+  pub number-dense : kind_number DenseNodes ≡ 2
+  pub number-ways : kind_number Ways ≡ 3
+  pub number-relations : kind_number Relations ≡ 4
+  pub number-mixed : kind_number Mixed ≡ 5
   -- the dense message: absent, present where it is empty, as a part of the bytes around the group
   pub dense-none : dense_in (0x0A ∷ 0x00 ∷ 0x10 ∷ 0x05 ∷ []) 0 4 ≡ Ok no_part
   pub dense-empty : dense_in (0x12 ∷ 0x00 ∷ []) 0 2 ≡ Ok (part_by 2 0)
@@ -91,6 +98,12 @@ worked =
       kind-dense-number = refl;
       kind-two-bytes = refl;
       kind-first = refl;
+      number-empty = refl;
+      number-nodes = refl;
+      number-dense = refl;
+      number-ways = refl;
+      number-relations = refl;
+      number-mixed = refl;
       dense-none = refl;
       dense-empty = refl;
       dense-among-others = refl;

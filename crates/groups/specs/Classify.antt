@@ -16,3 +16,12 @@ by_field (suc (suc (suc (suc (suc n))))) = Mixed
 unfoldable pub block_type : List ℕ → BlockType
 block_type [] = Empty
 block_type (b ∷ rest) = choose (eqb (b % 8) 2) (by_field (b / 8)) Mixed
+
+-- each kind's number, by which C knows it
+abbrev pub kind_number : BlockType → ℕ
+kind_number Empty = 0
+kind_number Nodes = 1
+kind_number DenseNodes = 2
+kind_number Ways = 3
+kind_number Relations = 4
+kind_number Mixed = 5

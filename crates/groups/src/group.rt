@@ -23,6 +23,7 @@ pub struct MessagePlace {
     pub field: u32,
 }
 
+// Its state: a type of its own, since an Option has no methods but its own.
 #[derive(Clone, Copy)]
 pub enum WireMessageIter {
     Ended,
@@ -75,7 +76,7 @@ fn spoilt_dense(found: Part, tag: u32, refusal: Refusal) -> Refusal
     refusal
 }
 
-// The dense message of the group `s`, as a part of it.
+// The dense message of the group `s`, as a part of it. A refusal is met arm by arm, since a second dense field's 11 comes before its payload's.
 fn dense_part(s: &[u8]) -> Result<Part, Refusal>
     ensures { result ≡ dense_from no_part (message s.now) }
 {
@@ -137,37 +138,25 @@ fn first_part(s: &[u8], from: usize, field: u32) -> Part
 fn step_at(buffer: &[u8], place: MessagePlace) -> Step<Part, WireMessageIter>
     ensures { result ≡ message_at buffer.now place }
 {
-    let start = place.start;
-    let len = place.len;
-    let at = place.at;
-    let field = place.field;
     let ended = WireMessageIter::Ended;
-    if !part_fits(buffer.len(), start, len) {
+    if !part_fits(buffer.len(), place.start, place.len) || place.len < place.at {
         return Step {
             said: Err(Refusal::Outside),
             next: ended,
         };
     }
-    if len < at {
+    let end = place.start + place.len;
+    let found = first_part(&buffer[place.start..end], place.at, place.field);
+    if found.present {
+        let at = found.start + found.len;
         return Step {
-            said: Err(Refusal::Outside),
-            next: ended,
-        };
-    }
-    let end = start + len;
-    let p = first_part(&buffer[start..end], at, field);
-    if p.present {
-        let part = part_at(start, p);
-        let mut behind = place;
-        behind.at = p.start + p.len;
-        return Step {
-            said: Ok(Some(part)),
-            next: WireMessageIter::At(behind),
+            said: Ok(Some(part_at(place.start, found))),
+            next: WireMessageIter::At(MessagePlace { at, ..place }),
         };
     }
     Step {
         said: Ok(None),
-        next: WireMessageIter::Ended,
+        next: ended,
     }
 }
 

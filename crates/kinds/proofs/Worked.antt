@@ -1,7 +1,7 @@
 -- Worked values: what a walk has ahead among the elements of one kind, on concrete bytes and places, one row for each clause of document
 -- 01, sections 3 and 4, that the definitions carry. They are proved by computing, so a definition that is changed breaks the row of its
 -- clause, whatever the code does. Bytes are hexadecimal.
-use Rattle.std.specs.Prelude.{ℕ, ◌≡◌, refl, List, [], ◌∷◌, Bool, true, false, replicate, pos}
+use Rattle.std.specs.Prelude.{ℕ, ◌≡◌, refl, List, [], ◌∷◌, Bool, true, false, replicate, pos, Option, Some, None, Ok, Err, ℤ}
 use Rattle.std.proofs.Math.Option.{none, some}
 use Rattle.numbers.specs.Signed.{signed, twos, unzigzag, zigzag, residue, wrap}
 use Rattle.protobuf.specs.declared.refusal.Refusal.TheVariants.{VarintCut, VarintLong, SecondColumn, Counts, Outside}
@@ -14,7 +14,7 @@ use Rattle.protobuf.specs.Column.{ColumnEnd, ended, cut, Column, value_at, colum
 use Rattle.message.specs.Payload.{raw_varint, fixed, counted, length_delimited, value_by, field_in, fields_of, group_by, payload}
 use Rattle.message.specs.Message.{field_at, message_from}
 use Rattle.fields.specs.declared.part.Part.{Part}
-use Rattle.fields.specs.Outcome.{onward, each}
+use Rattle.fields.specs.Outcome.{Outcome, onward, each}
 use Rattle.fields.specs.Part.{part_by, no_part}
 use Rattle.fields.specs.Parts.{parts_of}
 use Rattle.fields.specs.View.{column_part, info_part, put, store, view_from, view, view_in}
@@ -23,11 +23,11 @@ use Rattle.views.specs.declared.way.WireWay.{WireWay}
 use Rattle.views.specs.declared.relation.WireRelation.{WireRelation}
 use Rattle.block.specs.Tags.{take_pairs}
 use Rattle.block.specs.Infos.{Info}
-use Rattle.columns.specs.declared.sums.Sum64.{Sum64}
-use Rattle.columns.specs.declared.sums.Sum32.{Sum32}
+use Rattle.columns.specs.declared.sums.Sum.{Sum}
 use Rattle.columns.specs.declared.info_rows.InfoColumns.{InfoColumns}
 use Rattle.columns.specs.InStep.{ahead}
 use Rattle.columns.specs.Zip.{zip}
+use Rattle.elements.specs.declared.element.Element as handed
 use Rattle.elements.specs.declared.element.Element.TheVariants as element
 use Rattle.elements.specs.declared.element.NodeInfo.{NodeInfo}
 use Rattle.elements.specs.declared.element.NodeInfo.TheVariants as info
@@ -37,10 +37,6 @@ use Rattle.kinds.specs.declared.state.DenseColumns.{DenseColumns}
 use Rattle.kinds.specs.declared.state.Loose.{Loose}
 use Rattle.kinds.specs.declared.state.Loose.TheVariants as kind
 use Rattle.kinds.specs.declared.state.Messages.{Messages}
-use Rattle.kinds.specs.declared.dense_nodes.DenseStep.TheVariants as plain
-use Rattle.kinds.specs.declared.dense_nodes.FullDenseStep.TheVariants as full
-use Rattle.kinds.specs.declared.messages.LooseStep.{LooseStep}
-use Rattle.kinds.specs.declared.messages.LooseStep.TheVariants as loose
 use Rattle.kinds.specs.Dense.{nodes_of, dense_ahead, full_dense_ahead, dense_said}
 use Rattle.kinds.specs.Loose.{Placed, node_in, way_in, relation_in, viewed_all, loose_from}
 use Rattle.kinds.specs.Said.{loose_said, place_inside, dense_step_inside, is_end, full_dense_said, full_step_inside}
@@ -79,10 +75,10 @@ long = place 27 37
 abbrev outside : state.Column
 outside = place 1 0
 
-abbrev sum : state.Column → ℕ → Sum64
+abbrev sum : state.Column → ℕ → Sum ℤ
 sum c n = record { column = c; sum = pos n }
 
-abbrev sum32 : state.Column → ℕ → Sum32
+abbrev sum32 : state.Column → ℕ → Sum ℤ
 sum32 c n = record { column = c; sum = pos n }
 
 abbrev rows : state.Column → state.Column → state.Column → state.Column → DenseColumns
@@ -205,19 +201,19 @@ pub record DenseNodes : Type 0 where
   pub counts-before-pairs : dense_ahead bytes (uneven outside) ≡ end (cut Counts)
   pub end-before-pairs : dense_ahead bytes (zero outside) ≡ end ended
   -- a step says the sums of the columns behind it with the pairs of its own, and what is ahead of those columns
-  pub said : dense_said bytes three (plain.Node behind_one) ≡ all unread unread unread
-  pub said-ended : dense_said bytes three plain.Ended ≡ end ended
-  pub said-refused : dense_said bytes three (plain.Refused Counts) ≡ end (cut Counts)
-  pub full-said : full_dense_said bytes three (full.Node held behind_one infos_behind_one) ≡ all (row (some (first 1))) (row (some second)) (row none)
-  pub full-said-ended : full_dense_said bytes three full.Ended ≡ end ended
-  pub full-said-refused : full_dense_said bytes three (full.Refused Counts) ≡ end (cut Counts)
+  pub said : dense_said bytes three (Ok (Some (behind_one))) ≡ all unread unread unread
+  pub said-ended : dense_said bytes three (Ok None) ≡ end ended
+  pub said-refused : dense_said bytes three (Err Counts) ≡ end (cut Counts)
+  pub full-said : full_dense_said bytes three (Ok (Some (held, behind_one, infos_behind_one))) ≡ all (row (some (first 1))) (row (some second)) (row none)
+  pub full-said-ended : full_dense_said bytes three (Ok None) ≡ end ended
+  pub full-said-refused : full_dense_said bytes three (Err Counts) ≡ end (cut Counts)
   -- and hands back columns inside
-  pub hands-back : dense_step_inside bytes (plain.Node three) ≡ true
-  pub hands-back-rows : dense_step_inside bytes (plain.Node (rows outside over over over)) ≡ false
-  pub hands-back-pairs : dense_step_inside bytes (plain.Node (one outside)) ≡ false
-  pub full-hands-back : full_step_inside bytes (full.Node info.Missing three two) ≡ true
-  pub full-hands-back-columns : full_step_inside bytes (full.Node info.Missing (one outside) two) ≡ false
-  pub full-hands-back-infos : full_step_inside bytes (full.Node info.Missing three (infos outside over)) ≡ false
+  pub hands-back : dense_step_inside bytes (Ok (Some (three))) ≡ true
+  pub hands-back-rows : dense_step_inside bytes (Ok (Some ((rows outside over over over)))) ≡ false
+  pub hands-back-pairs : dense_step_inside bytes (Ok (Some ((one outside)))) ≡ false
+  pub full-hands-back : full_step_inside bytes (Ok (Some (info.Missing, three, two))) ≡ true
+  pub full-hands-back-columns : full_step_inside bytes (Ok (Some (info.Missing, one outside, two))) ≡ false
+  pub full-hands-back-infos : full_step_inside bytes (Ok (Some (info.Missing, three, infos outside over))) ≡ false
 
 pub dense-worked : DenseNodes
 unfolding and_then digits varint signed twos unzigzag zigzag residue wrap unrolled mapped value_at column_from sums_from each take_pairs ahead zip pairs_of nodes_of
@@ -304,8 +300,8 @@ relation_with i = placed (part_by 3 9) (relation_item (record { id = pos 5; keys
 abbrev node_of : Part → WireNode
 node_of i = record { id = pos 4; lat = pos 1; lon = pos 2; keys = no_part; vals = no_part; info = i }
 
-abbrev found : ℕ → LooseStep
-found at = loose.Found (part_by 14 10) (element.Node (node_of no_part)) at
+abbrev found : ℕ → Outcome (Option (Part × handed.Element × ℕ))
+found at = Ok (Some (part_by 14 10, element.Node (node_of no_part), at))
 
 abbrev node_with : Part → Placed
 node_with i = placed (part_by 14 10) (node_item (node_of i))
@@ -350,8 +346,8 @@ pub record LooseElements : Type 0 where
   -- a step says the message and what is ahead of the place behind it, which is in the group
   pub message-said : loose_said group (among false kind.Nodes 0) (found 23) ≡ ending (node_with no_part ∷ last_node ∷ []) ended
   pub message-said-outside : loose_said group (among false kind.Nodes 0) (found 43) ≡ ending (node_with no_part ∷ []) (cut Outside)
-  pub no-message-said : loose_said group (among false kind.Nodes 0) loose.Ended ≡ end ended
-  pub refusal_said : loose_said group (among false kind.Nodes 0) (loose.Refused SecondColumn) ≡ end (cut SecondColumn)
+  pub no-message-said : loose_said group (among false kind.Nodes 0) (Ok None) ≡ end ended
+  pub refusal_said : loose_said group (among false kind.Nodes 0) (Err SecondColumn) ≡ end (cut SecondColumn)
   pub place-at_the_end : place_inside (among false kind.Nodes 0) (found 42) ≡ true
   pub an_end : is_end {A = ℕ} (end ended) ≡ true
   pub no_end : is_end {A = ℕ} (more 1 (end ended)) ≡ false

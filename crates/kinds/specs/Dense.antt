@@ -1,7 +1,8 @@
 -- The dense nodes that a walk has ahead in a group (document 01, section 3), over any buffer and place. Reading order: id, lat, lon; in a
 -- full walk the info row; then the end where all three have ended, and 12 where only some have; then keys_vals. So a bad varint of a row or
 -- of its info comes before 12 and before the end, and nodes do not stop where info has ended.
-use Rattle.std.specs.Prelude.{ℕ, List, ℤ, eqb, Ok, Err}
+use Rattle.std.specs.Prelude.{ℕ, List, ℤ, eqb, Ok, Err, Some, None}
+use Rattle.std.specs.Prelude.{Option as Maybe}
 use Rattle.std.proofs.Math.Option.{Option, none, some}
 use Rattle.protobuf.specs.Refusal.{number}
 use Rattle.numbers.specs.Choose.{choose}
@@ -16,8 +17,6 @@ use Rattle.elements.specs.Tags.{pairs_of}
 use Rattle.elements.specs.Element.{RowInfo, unread, row, DenseItem}
 use Rattle.columns.specs.declared.info_rows.InfoColumns.{InfoColumns}
 use Rattle.kinds.specs.declared.state.DenseColumns.{DenseColumns}
-use Rattle.kinds.specs.declared.dense_nodes.DenseStep.{DenseStep}
-use Rattle.kinds.specs.declared.dense_nodes.DenseStep.TheVariants as step
 
 -- an id, a latitude and a longitude
 abbrev pub Row : Type 0
@@ -75,7 +74,7 @@ node_between s d next i =
     }
 
 -- what a step of the plain walk says
-abbrev pub dense_said : List ℕ → DenseColumns → DenseStep → Column DenseItem
-dense_said s d (step.Node next) = more (node_between s d next unread) (dense_ahead s next)
-dense_said s d step.Ended = end ended
-dense_said s d (step.Refused r) = end (cut r)
+abbrev pub dense_said : List ℕ → DenseColumns → Outcome (Maybe DenseColumns) → Column DenseItem
+dense_said s d (Ok (Some next)) = more (node_between s d next unread) (dense_ahead s next)
+dense_said s d (Ok None) = end ended
+dense_said s d (Err r) = end (cut r)

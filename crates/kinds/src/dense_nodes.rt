@@ -14,38 +14,18 @@ ghost use Rattle.kinds.specs.Said.{zero_next, NodeSaid, row_read, read_row, row_
 use crate::state::DenseColumns;
 use columns::info_rows::{InfoColumns, next_info};
 use columns::keys_vals::pass_pairs;
-use columns::sums::Sum64;
+use columns::sums::Sum;
 use columns::zip::{RowColumns, next_row};
 use elements::element::{DenseNodeInfo, NodeInfo};
-use numbers::signed::{wrapping_add_i64, zigzag_i64};
+use numbers::signed::Signed;
 use protobuf::column::{Column, short_value};
-use protobuf::refusal::{Refusal, number};
-
-// The sums of the next columns are the node; its pairs stand where keys_vals of these columns does.
-#[derive(Clone, Copy)]
-pub enum DenseStep {
-    Node(DenseColumns),
-    Ended,
-    Refused(Refusal),
-}
+use protobuf::refusal::Refusal;
 
 // Whether there is a next node, which is so where `found` is not 0, and the columns behind it. A number, so that what a loop carries has no gaps.
 #[derive(Clone, Copy)]
 pub struct NextNode {
     pub found: u64,
     pub columns: DenseColumns,
-}
-
-// The same with metadata, and the columns of DenseInfo behind it.
-#[derive(Clone, Copy)]
-pub enum FullDenseStep {
-    Node {
-        info: NodeInfo,
-        columns: DenseColumns,
-        infos: InfoColumns,
-    },
-    Ended,
-    Refused(Refusal),
 }
 
 // Whether the next value of keys_vals is 0 in one byte, as it is where a node has no pairs. A column that is outside has no next value.
@@ -77,50 +57,45 @@ fn pass_node(buffer: &[u8], keyvals: Column) -> Result<Column, Refusal>
     pass_pairs(buffer, keyvals)
 }
 
-// The next dense node of a plain walk: its row, then its pairs. What a column of either refuses is told where it is read, 14 where the
-// column is outside among them, and 12 behind the row. Where all of id, lat and lon have ended, keys_vals is not looked at.
-pub fn next_dense(buffer: &[u8], columns: DenseColumns) -> DenseStep
+// The next dense node of a plain walk: its row, then its pairs. The sums of the columns behind it are the node, and its pairs stand where
+// keys_vals of these columns does. What a column of either refuses is told where it is read, 14 where the column is outside among them, and
+// 12 behind the row. Where all of id, lat and lon have ended, keys_vals is not looked at.
+pub fn next_dense(buffer: &[u8], columns: DenseColumns) -> Result<Option<DenseColumns>, Refusal>
     ensures says { dense_said buffer.now columns result ≡ dense_ahead buffer.now columns }
     ensures inside { dense_step_inside buffer.now result ≡ true }
 {
-    match next_row(buffer, columns.rows) {
-        Err(n) => DenseStep::Refused(n),
-        Ok(None) => DenseStep::Ended,
-        Ok(Some(rows)) => match pass_node(buffer, columns.keyvals) {
-            Err(n) => DenseStep::Refused(n),
-            Ok(keyvals) => DenseStep::Node(DenseColumns { rows, keyvals }),
-        },
-    }
+    let Some(rows) = next_row(buffer, columns.rows)? else {
+        return Ok(None);
+    };
+    let keyvals = pass_node(buffer, columns.keyvals)?;
+    Ok(Some(DenseColumns { rows, keyvals }))
 }
 
 // The next dense node by `next_dense`, which also tells the end and refusals.
 fn any_node(buffer: &[u8], columns: DenseColumns) -> NextNode
     ensures { NodeSaid buffer.now columns result }
 {
-    let d = next_dense(buffer, columns);
-    match d {
-        DenseStep::Node(next) => NextNode {
+    match next_dense(buffer, columns) {
+        Ok(Some(next)) => NextNode {
             found: 1,
             columns: next,
         },
-        DenseStep::Ended => NextNode { found: 0, columns },
-        DenseStep::Refused(_) => NextNode { found: 0, columns },
+        Ok(None) => NextNode { found: 0, columns },
+        Err(_) => NextNode { found: 0, columns },
     }
 }
 
 // The running sum behind a value that a word tells (`short_value`).
-fn move_sum(state: Sum64, word: u64) -> Sum64
+fn move_sum(state: Sum<i64>, word: u64) -> Sum<i64>
     requires { state.column.at + word % 16 < 2 ^ 64 }
     ensures { result ≡ moved_sum state word }
 {
-    let column = state.column;
-    let sum = state.sum;
-    Sum64 {
+    Sum {
         column: Column {
-            at: column.at + (word % 16) as usize,
-            end: column.end,
+            at: state.column.at + (word % 16) as usize,
+            end: state.column.end,
         },
-        sum: wrapping_add_i64(sum, zigzag_i64(word / 16)),
+        sum: state.sum.plus(i64::of_zigzag(word / 16)),
     }
 }
 
@@ -183,7 +158,7 @@ fn read_info(buffer: &[u8], infos: InfoColumns) -> Result<(NodeInfo, InfoColumns
 fn row_refusal(buffer: &[u8], infos: InfoColumns, refusal: Refusal) -> Refusal
     ensures { RefusedRow buffer.now infos refusal result }
 {
-    if number(refusal) != 12 {
+    if refusal != Refusal::Counts {
         return refusal;
     }
     match read_info(buffer, infos) {
@@ -192,28 +167,24 @@ fn row_refusal(buffer: &[u8], infos: InfoColumns, refusal: Refusal) -> Refusal
     }
 }
 
-// The next dense node of a full walk: its row, its info row, then its pairs. The end and 12 are told behind the info row, and a node
-// without info is a node.
-pub fn next_full_dense(buffer: &[u8], columns: DenseColumns, infos: InfoColumns) -> FullDenseStep
+// The next dense node of a full walk: its row, its info row, then its pairs, with the columns behind all three. The end and 12 are told
+// behind the info row, and a node without info is a node.
+pub fn next_full_dense(
+    buffer: &[u8],
+    columns: DenseColumns,
+    infos: InfoColumns,
+) -> Result<Option<(NodeInfo, DenseColumns, InfoColumns)>, Refusal>
     ensures says { full_dense_said buffer.now columns result ≡ full_dense_ahead buffer.now columns infos }
     ensures inside { infos_inside buffer.now infos ≡ true → full_step_inside buffer.now result ≡ true }
 {
-    match next_row(buffer, columns.rows) {
-        Err(n) => FullDenseStep::Refused(row_refusal(buffer, infos, n)),
-        Ok(None) => match read_info(buffer, infos) {
-            Err(n) => FullDenseStep::Refused(n),
-            Ok(_) => FullDenseStep::Ended,
-        },
-        Ok(Some(rows)) => match read_info(buffer, infos) {
-            Err(n) => FullDenseStep::Refused(n),
-            Ok((info, infos)) => match pass_node(buffer, columns.keyvals) {
-                Err(n) => FullDenseStep::Refused(n),
-                Ok(keyvals) => FullDenseStep::Node {
-                    info,
-                    columns: DenseColumns { rows, keyvals },
-                    infos,
-                },
-            },
-        },
-    }
+    let row = match next_row(buffer, columns.rows) {
+        Err(refusal) => return Err(row_refusal(buffer, infos, refusal)),
+        Ok(row) => row,
+    };
+    let (info, others) = read_info(buffer, infos)?;
+    let Some(rows) = row else {
+        return Ok(None);
+    };
+    let keyvals = pass_node(buffer, columns.keyvals)?;
+    Ok(Some((info, DenseColumns { rows, keyvals }, others)))
 }

@@ -1,44 +1,18 @@
--- Worked values: the numbers of each view's answer and of each kind of element, with all fields different. They are proved by computing, so
--- a definition that is changed breaks a row, whatever the code does.
-use Rattle.std.specs.Prelude.{ℕ, ◌-◌, ◌^◌, true, false, ◌≡◌, refl, List, [], ◌∷◌, ◌++◌, replicate, pos, negsuc, Some, None}
+-- Worked values: the numbers of each kind of element, with all fields different. They are proved by computing, so a definition that is changed
+-- breaks a row, whatever the code does.
+use Rattle.std.specs.Prelude.{ℕ, ◌-◌, ◌^◌, true, false, ◌≡◌, refl, List, [], ◌∷◌, ◌++◌, replicate, pos, negsuc}
 use Rattle.numbers.specs.Little.{bytes}
 use Rattle.numbers.specs.Signed.{residue}
 use Rattle.fields.specs.Part.{part_by, no_part}
-use Rattle.views.specs.declared.info.WireInfo.{WireInfo}
 use Rattle.elements.specs.declared.element.NodeInfo.{NodeInfo}
 use Rattle.elements.specs.declared.element.NodeInfo.TheVariants as info
 use Rattle.elements.specs.declared.element.Element.TheVariants as element
 use Rattle.answers.specs.Words.{words}
 use Rattle.layouts.specs.Element.{element_words, element_put}
-use Rattle.layouts.specs.Views.{node_words, way_words, relation_words, dense_nodes_words, dense_info_words, info_words}
 
 -- −1, which is 2^64 − 1 in two's complement, and so on
 abbrev minus : ℕ → ℕ
 minus n = 2 ^ 64 - n
-
--- ---- an Info with all six, and one with none
-
-abbrev full_info : WireInfo
-full_info =
-    record {
-      version = Some (negsuc 1);
-      timestamp = Some (pos 3);
-      changeset = Some (negsuc 3);
-      uid = Some (pos 5);
-      user = Some (negsuc 5);
-      visible = Some true;
-    }
-
-abbrev no_info : WireInfo
-no_info =
-    record {
-      version = None;
-      timestamp = None;
-      changeset = None;
-      uid = None;
-      user = None;
-      visible = None;
-    }
 
 -- ---- elements of group 21, whose message is 23 bytes from 22 on
 
@@ -56,14 +30,6 @@ dense_put n at =
     element_put (blank n) at 21 (part_by 22 23) (element.DenseNode (record { id = pos 1; lat = pos 2; lon = pos 3; tags = record { at = 4; end = 5 }; info = info.Unread }))
 
 pub record Worked : Type 0 where
-  pub node-numbers : node_words (record { id = negsuc 0; lat = pos 2; lon = negsuc 2; keys = part_by 4 5; vals = no_part; info = part_by 6 7 }) ≡ minus 1 ∷ 2 ∷ minus 3 ∷ 1 ∷ 4 ∷ 5 ∷ 0 ∷ 0 ∷ 0 ∷ 1 ∷ 6 ∷ 7 ∷ []
-  pub way-numbers : way_words (record { id = negsuc 0; keys = part_by 2 3; vals = part_by 4 5; info = no_part; refs = part_by 6 7; lat = part_by 8 9; lon = part_by 10 11; pins = part_by 12 13 }) ≡ minus 1 ∷ 1 ∷ 2 ∷ 3 ∷ 1 ∷ 4 ∷ 5 ∷ 0 ∷ 0 ∷ 0 ∷ 1 ∷ 6 ∷ 7 ∷ 1 ∷ 8 ∷ 9 ∷ 1 ∷ 10 ∷ 11 ∷ 1 ∷ 12 ∷ 13 ∷ []
-  pub relation-numbers : relation_words (record { id = negsuc 0; keys = part_by 2 3; vals = part_by 4 5; info = no_part; roles = part_by 6 7; memids = part_by 8 9; types = part_by 10 11 }) ≡ minus 1 ∷ 1 ∷ 2 ∷ 3 ∷ 1 ∷ 4 ∷ 5 ∷ 0 ∷ 0 ∷ 0 ∷ 1 ∷ 6 ∷ 7 ∷ 1 ∷ 8 ∷ 9 ∷ 1 ∷ 10 ∷ 11 ∷ []
-  pub dense-nodes-numbers : dense_nodes_words (record { id = part_by 1 2; info = no_part; lat = part_by 3 4; lon = part_by 5 6; keyvals = part_by 7 8 }) ≡ 1 ∷ 1 ∷ 2 ∷ 0 ∷ 0 ∷ 0 ∷ 1 ∷ 3 ∷ 4 ∷ 1 ∷ 5 ∷ 6 ∷ 1 ∷ 7 ∷ 8 ∷ []
-  pub dense-info-numbers : dense_info_words (record { version = part_by 1 2; timestamp = part_by 3 4; changeset = part_by 5 6; uid = part_by 7 8; user = part_by 9 10; visible = no_part }) ≡ 1 ∷ 1 ∷ 2 ∷ 1 ∷ 3 ∷ 4 ∷ 1 ∷ 5 ∷ 6 ∷ 1 ∷ 7 ∷ 8 ∷ 1 ∷ 9 ∷ 10 ∷ 0 ∷ 0 ∷ 0 ∷ []
-  pub info-numbers : info_words full_info ≡ 1 ∷ minus 2 ∷ 1 ∷ 3 ∷ 1 ∷ minus 4 ∷ 1 ∷ 5 ∷ 1 ∷ minus 6 ∷ 1 ∷ 1 ∷ []
-  pub info-absent : info_words no_info ≡ 0 ∷ 0 ∷ 0 ∷ 0 ∷ 0 ∷ 0 ∷ 0 ∷ 0 ∷ 0 ∷ 0 ∷ 0 ∷ 0 ∷ []
-  pub info-not-visible : info_words (record { version = no_info.version; timestamp = no_info.timestamp; changeset = no_info.changeset; uid = no_info.uid; user = no_info.user; visible = Some false }) ≡ 0 ∷ 0 ∷ 0 ∷ 0 ∷ 0 ∷ 0 ∷ 0 ∷ 0 ∷ 0 ∷ 0 ∷ 1 ∷ 0 ∷ []
   -- an element's kind, group and part come before the numbers of its kind
   pub dense-unread : dense_words info.Unread ≡ 0 ∷ 21 ∷ 22 ∷ 23 ∷ minus 1 ∷ 2 ∷ minus 3 ∷ 4 ∷ 5 ∷ 0 ∷ []
   pub dense-missing : dense_words info.Missing ≡ 0 ∷ 21 ∷ 22 ∷ 23 ∷ minus 1 ∷ 2 ∷ minus 3 ∷ 4 ∷ 5 ∷ 1 ∷ []
@@ -80,14 +46,6 @@ pub worked : Worked
 unfolding residue bytes words
 worked =
     record {
-      node-numbers = refl;
-      way-numbers = refl;
-      relation-numbers = refl;
-      dense-nodes-numbers = refl;
-      dense-info-numbers = refl;
-      info-numbers = refl;
-      info-absent = refl;
-      info-not-visible = refl;
       dense-unread = refl;
       dense-missing = refl;
       dense-row = refl;

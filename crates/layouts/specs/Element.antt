@@ -10,7 +10,7 @@ use Rattle.elements.specs.declared.element.DenseNode.{DenseNode}
 use Rattle.elements.specs.declared.element.Element.{Element}
 use Rattle.elements.specs.declared.element.Element.TheVariants as element
 use Rattle.answers.specs.Words.{words, flag, signed_word}
-use Rattle.layouts.specs.Views.{node_words, way_words, relation_words}
+use Rattle.answers.specs.Views.{node_words, way_words, relation_words}
 
 -- a dense node's metadata: 0 not read, 1 none for this node, 2 and its row
 abbrev pub node_info_words : NodeInfo → List ℕ

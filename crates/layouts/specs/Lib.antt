@@ -1,3 +1,2 @@
--- The numbers of each view's answer and of an element, as they pass through C.
-pub mod Views
+-- The numbers of an element, as they pass through C.
 pub mod Element

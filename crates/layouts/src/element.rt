@@ -4,11 +4,11 @@ ghost use Rattle.numbers.specs.Little.{written};
 ghost use Rattle.answers.specs.Words.{words};
 ghost use Rattle.layouts.specs.Element.{node_info_words, dense_node_words, kind_word, own_words, element_put};
 
-use crate::messages::{node_numbers, relation_numbers, way_numbers};
-use answers::words::{bits_i32, put_at};
+use answers::layout::Layout;
+use answers::words::put_at;
 use elements::element::{DenseNode, Element, NodeInfo};
 use fields::part::Part;
-use numbers::signed::bits_i64;
+use numbers::signed::Signed;
 
 // An element's bytes: a way has the most numbers, 26.
 pub const ELEMENT: usize = 208;
@@ -26,11 +26,11 @@ fn put_info(out: &mut [u8], at: usize, info: NodeInfo)
             at,
             &[
                 2,
-                bits_i32(i.version),
-                bits_i64(i.timestamp),
-                bits_i64(i.changeset),
-                bits_i32(i.uid),
-                bits_i32(i.user),
+                i.version.bits(),
+                i.timestamp.bits(),
+                i.changeset.bits(),
+                i.uid.bits(),
+                i.user.bits(),
                 i.visible as u64,
             ],
         ),
@@ -42,20 +42,18 @@ fn put_dense(out: &mut [u8], at: usize, d: DenseNode)
     requires { at + 96 ≤ length out.old }
     ensures { out.new ≡ written out.old at (words (dense_node_words d)) }
 {
-    let tags = d.tags;
-    let info = d.info;
     put_at(
         out,
         at,
         &[
-            bits_i64(d.id),
-            bits_i64(d.lat),
-            bits_i64(d.lon),
-            tags.at as u64,
-            tags.end as u64,
+            d.id.bits(),
+            d.lat.bits(),
+            d.lon.bits(),
+            d.tags.at as u64,
+            d.tags.end as u64,
         ],
     );
-    put_info(out, at + 40, info);
+    put_info(out, at + 40, d.info);
 }
 
 // Puts the numbers of an element's kind.
@@ -65,9 +63,9 @@ fn put_own(out: &mut [u8], at: usize, element: Element)
 {
     match element {
         Element::DenseNode(d) => put_dense(out, at, d),
-        Element::Node(v) => put_at(out, at, &node_numbers(v)),
-        Element::Way(v) => put_at(out, at, &way_numbers(v)),
-        Element::Relation(v) => put_at(out, at, &relation_numbers(v)),
+        Element::Node(v) => v.put_at(out, at),
+        Element::Way(v) => v.put_at(out, at),
+        Element::Relation(v) => v.put_at(out, at),
     }
 }
 

@@ -1,10 +1,13 @@
 // Strings and groups by their number, through the tables behind a block.
-ghost use Rattle.std.specs.Prelude.{◌≡◌, List, ℕ, ◌+◌, ◌*◌, ◌≤◌, leb, length, take};
+ghost use Rattle.std.specs.Prelude.{◌≡◌, List, ℕ, ◌+◌, ◌*◌, ◌≤◌, leb, length, take, Ok, Err};
+ghost use Rattle.protobuf.specs.declared.refusal.Refusal.TheVariants.{Outside};
+ghost use Rattle.numbers.specs.Choose.{choose};
+ghost use Rattle.fields.specs.Part.{is_inside};
 ghost use Rattle.wire.specs.Scan.{Scanned-as};
 ghost use Rattle.lookup.specs.Lookup.{entry_at, get_at, is_record_inside, group_at, string_of, group_of};
 
 use fields::part::{Part, part_fits};
-use numbers::little::read_u32;
+use numbers::little::Little;
 use protobuf::refusal::Refusal;
 use wire::record::WireBlock;
 
@@ -15,8 +18,21 @@ fn entry_at(s: &[u8], place: usize) -> Part
 {
     Part {
         present: true,
-        start: read_u32(s, place) as usize,
-        len: read_u32(s, place + 4) as usize,
+        start: u32::read(s, place) as usize,
+        len: u32::read(s, place + 4) as usize,
+    }
+}
+
+// The part that a table's entry names: 14 where its range passes the buffer.
+fn named(buffer: &[u8], place: usize) -> Result<Part, Refusal>
+    requires { place + 8 ≤ length buffer.now }
+    ensures { result ≡ choose (is_inside buffer.now (entry_at buffer.now place)) (Ok (entry_at buffer.now place)) (Err Outside) }
+{
+    let part = entry_at(buffer, place);
+    if part_fits(buffer.len(), part.start, part.len) {
+        Ok(part)
+    } else {
+        Err(Refusal::Outside)
     }
 }
 
@@ -63,12 +79,8 @@ pub fn get(buffer: &[u8], block: WireBlock, index: usize) -> Result<Option<Part>
     if !table_fits(n - 8, table, index) {
         return Ok(None);
     }
-    let part = entry_at(buffer, table + 8 * index);
-    if part_fits(n, part.start, part.len) {
-        Ok(Some(part))
-    } else {
-        Err(Refusal::Outside)
-    }
+    let part = named(buffer, table + 8 * index)?;
+    Ok(Some(part))
 }
 
 // The group of a number: 14 where the block or a table passes the buffer, the number is not below the count, or the range that its entry
@@ -78,7 +90,6 @@ pub fn group(buffer: &[u8], block: WireBlock, index: usize) -> Result<Part, Refu
     ensures answer { result ≡ group_at buffer.now block index }
     ensures scanned { (b : List ℕ) (n : ℕ) → Scanned-as buffer.now block b n → result ≡ group_of (take n b) index }
 {
-    let n = buffer.len();
     let table = block.grouptable;
     if !is_inside(buffer, block) {
         return Err(Refusal::Outside);
@@ -86,9 +97,5 @@ pub fn group(buffer: &[u8], block: WireBlock, index: usize) -> Result<Part, Refu
     if block.groups <= index {
         return Err(Refusal::Outside);
     }
-    let part = entry_at(buffer, table + 8 * index);
-    if !part_fits(n, part.start, part.len) {
-        return Err(Refusal::Outside);
-    }
-    Ok(part)
+    named(buffer, table + 8 * index)
 }

@@ -2,7 +2,8 @@
 -- stands and ends, the same of memids and the sum up to there, and the same of types. An item is the role's number, the case of the id (0
 -- node, 1 way, 2 relation, 3 another type), the type's number and the id. A slot with another phase is read as a state that is outside
 -- every buffer.
-use Rattle.std.specs.Prelude.{ℕ, List, [], ◌∷◌, Bool, true, false, length, leb, eqb, pos}
+use Rattle.std.specs.Prelude.{ℕ, ◌*◌, ◌≤◌, List, [], ◌∷◌, Bool, true, false, length, leb, eqb, pos}
+use lib.Dec.{lit≤}
 use Rattle.numbers.specs.Choose.{choose}
 use Rattle.numbers.specs.Little.{number_at}
 use Rattle.protobuf.specs.Column.{Column}
@@ -50,6 +51,16 @@ member_item_by role (id.Unknown kind i) = role ∷ 3 ∷ signed_word kind ∷ si
 
 abbrev pub member_item : RelMember → List ℕ
 member_item m = member_item_by (signed_word m.role) m.id
+
+-- no member takes more
+pub item-size : (m : RelMember) → 8 * length (member_item m) ≤ 32
+item-size m = by m.id
+  where
+    by : (i : MemberId) → 8 * length (member_item_by (signed_word m.role) i) ≤ 32
+    by (id.Node i) = lit≤ tt
+    by (id.Way i) = lit≤ tt
+    by (id.Relation i) = lit≤ tt
+    by (id.Unknown kind i) = lit≤ tt
 
 -- what a state has ahead over a buffer and the record in a slice
 abbrev pub members_in : List ℕ → List ℕ → RelMemberIter → Column RelMember

@@ -18,6 +18,20 @@ pub struct Field {
     pub len: usize,
 }
 
+impl Field {
+    // A field by its tag and what stands behind it.
+    fn of(tag: u32, raw: Payload) -> Field
+        ensures { result ≡ record { tag = tag; value = raw.value; start = raw.start; len = raw.len } }
+    {
+        Field {
+            tag,
+            value: raw.value,
+            start: raw.start,
+            len: raw.len,
+        }
+    }
+}
+
 // Why no field can be read: a refusal before the tag is complete, or a tag whose payload is refused.
 #[derive(Clone, Copy, Debug, PartialEq, Eq)]
 pub enum NoField {
@@ -45,15 +59,7 @@ fn field_by(
 {
     match payload {
         Err(refusal) => Err(NoField::Spoilt { tag, refusal }),
-        Ok((raw, next)) => {
-            let field = Field {
-                tag,
-                value: raw.value,
-                start: raw.start,
-                len: raw.len,
-            };
-            Ok(Some((field, next)))
-        }
+        Ok((raw, next)) => Ok(Some((Field::of(tag, raw), next))),
     }
 }
 
@@ -118,21 +124,11 @@ fn field_in(word: u64, at: usize) -> (Field, usize)
     let value = word / 2048;
     let behind = at + 1 + (word / 128 % 16) as usize;
     if word % 8 == 2 {
-        let field = Field {
-            tag,
-            value,
-            start: behind,
-            len: value as usize,
-        };
-        return (field, behind + value as usize);
+        let (raw, next) = Payload::up_to(value, behind, behind + value as usize);
+        return (Field::of(tag, raw), next);
     }
-    let field = Field {
-        tag,
-        value,
-        start: at + 1,
-        len: (word / 128 % 16) as usize,
-    };
-    (field, behind)
+    let (raw, next) = Payload::up_to(value, at + 1, behind);
+    (Field::of(tag, raw), next)
 }
 
 // The field at `at` with the place behind it, or none at the end of the message: 14 where `at` is behind the end, then the tag's refusals,

@@ -3,4 +3,5 @@
 #![tactic(auto)]
 
 pub mod field;
+mod open;
 pub mod payload;

@@ -1,9 +1,10 @@
 // Payloads: what stands behind a tag.
-ghost use Rattle.std.specs.Prelude.{◌≡◌, ◌≤◌, length};
-ghost use Rattle.message.specs.Payload.{raw_varint, length_delimited, payload, passed, group_by, fixed, value_by};
+ghost use Rattle.std.specs.Prelude.{◌≡◌, ◌-◌, ◌≤◌, length};
+ghost use Rattle.message.specs.Payload.{payload_of, raw_varint, length_delimited, payload, passed, group_by, fixed, value_by};
 ghost use Rattle.protobuf.specs.Tag.{wire_type, tag_by};
 ghost use Rattle.message.specs.Answers.{past};
 
+use crate::open::Open;
 use protobuf::refusal::Refusal;
 use protobuf::tag::{EGROUP, I32, I64, LEN, SGROUP, VARINT, read_tag};
 use protobuf::varint::read_varint;
@@ -16,6 +17,17 @@ pub struct Payload {
     pub len: usize,
 }
 
+impl Payload {
+    // The payload from `start` up to `next`, with that place.
+    pub(crate) fn up_to(value: u64, start: usize, next: usize) -> (Payload, usize)
+        requires { start ≤ next }
+        ensures { result ≡ (payload_of value start (next - start), next) }
+    {
+        let len = next - start;
+        (Payload { value, start, len }, next)
+    }
+}
+
 // A varint with its raw bytes, which are a column of one value: 2, 3 and 14 as `read_varint`.
 pub fn read_raw_varint(s: &[u8], at: usize) -> Result<(Payload, usize), Refusal>
     ensures { result ≡ raw_varint s.now at }
@@ -24,12 +36,7 @@ pub fn read_raw_varint(s: &[u8], at: usize) -> Result<(Payload, usize), Refusal>
     let Ok((value, next)) = r else {
         return Err(r.unwrap_err());
     };
-    let raw = Payload {
-        value,
-        start: at,
-        len: next - at,
-    };
-    Ok((raw, next))
+    Ok(Payload::up_to(value, at, next))
 }
 
 // The bytes that a varint length counts: 2, 3 and 14 as `read_varint`, 6 where they pass the end.
@@ -44,7 +51,7 @@ pub fn read_len_delimited(s: &[u8], at: usize) -> Result<(Payload, usize), Refus
     if s.len() - start < len {
         return Err(Refusal::PastEnd);
     }
-    Ok((Payload { value, start, len }, start + len))
+    Ok(Payload::up_to(value, start, start + len))
 }
 
 // `n` bytes of a fixed size.
@@ -55,12 +62,7 @@ fn read_fixed(s: &[u8], at: usize, n: usize) -> Result<(Payload, usize), Refusal
     if s.len() - at < n {
         return Err(Refusal::PastEnd);
     }
-    let raw = Payload {
-        value: 0,
-        start: at,
-        len: n,
-    };
-    Ok((raw, at + n))
+    Ok(Payload::up_to(0, at, at + n))
 }
 
 // A payload where no group may be opened.
@@ -78,39 +80,42 @@ fn read_single(s: &[u8], at: usize, wire: u32) -> Result<(Payload, usize), Refus
     }
 }
 
-// Past a group of `field` whose start tag ends at `at`, up to and with its own end tag. The numbers of the groups that are open, the
-// innermost last, stand in `numbers`.
+// Past a group of `field` whose start tag ends at `at`, up to and with its own end tag. The groups that are open stand one in the other:
+// `innermost` is the number of the one whose end comes next, and `around` has those of the others.
 fn skip_group(s: &[u8], at: usize, field: u32) -> Result<usize, Refusal>
     requires { at ≤ length s.now }
     ensures { past result ≡ group_by 16 s.now field at }
 {
-    let mut numbers = [0u32; 16];
-    numbers[0] = field;
-    let mut top: usize = 0;
+    let mut around = Open::new();
+    let mut innermost = field;
     let mut i = at;
     loop {
         let Some((tag, next)) = read_tag(s, i)? else {
             return Err(Refusal::PastEnd);
         };
-        if tag.wire == EGROUP {
-            if numbers[top] != tag.field {
-                return Err(Refusal::WireType);
+        match tag.wire {
+            EGROUP => {
+                if innermost != tag.field {
+                    return Err(Refusal::WireType);
+                }
+                let Some(number) = around.pop() else {
+                    return Ok(next);
+                };
+                innermost = number;
+                i = next;
             }
-            if top == 0 {
-                return Ok(next);
+            SGROUP => {
+                if around.is_full() {
+                    return Err(Refusal::GroupDepth);
+                }
+                around.push(innermost);
+                innermost = tag.field;
+                i = next;
             }
-            top -= 1;
-            i = next;
-        } else if tag.wire == SGROUP {
-            if top == 15 {
-                return Err(Refusal::GroupDepth);
+            _ => {
+                let (_, behind) = read_single(s, next, tag.wire)?;
+                i = behind;
             }
-            top += 1;
-            numbers[top] = tag.field;
-            i = next;
-        } else {
-            let (_, behind) = read_single(s, next, tag.wire)?;
-            i = behind;
         }
     }
 }
@@ -127,12 +132,7 @@ pub fn read_payload(s: &[u8], at: usize, field: u32, wire: u32) -> Result<(Paylo
         return read_single(s, at, wire);
     }
     let next = skip_group(s, at, field)?;
-    let group = Payload {
-        value: 0,
-        start: at,
-        len: next - at,
-    };
-    Ok((group, next))
+    Ok(Payload::up_to(0, at, next))
 }
 
 // The place behind what stands behind a tag of `field` and `wire`, with the refusals of `read_payload`.

@@ -5,7 +5,6 @@ use Rattle.numbers.specs.Choose.{choose}
 use Rattle.numbers.specs.Little.{written}
 use Rattle.protobuf.specs.Refusal.{number}
 use Rattle.fields.specs.declared.part.Part.{Part}
-use Rattle.wire.specs.declared.record.WireBlock.{WireBlock}
 use Rattle.fields.specs.Outcome.{Outcome, onward}
 use Rattle.wire.specs.Scan.{Scanned, scanned, after_scan}
 use Rattle.lookup.specs.Lookup.{get_at, group_at}

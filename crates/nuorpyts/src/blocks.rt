@@ -4,18 +4,17 @@ ghost use Rattle.numbers.specs.Choose.{choose};
 ghost use Rattle.fields.specs.Outcome.{each};
 ghost use Rattle.wire.specs.Scan.{scanned, meta};
 ghost use Rattle.lookup.specs.Lookup.{string_of, group_of};
-ghost use Rattle.answers.specs.Codes.{answer_code, answer_after};
+ghost use Rattle.answers.specs.Codes.{Answers};
 ghost use Rattle.answers.specs.Record.{record_words};
 ghost use Rattle.answers.specs.Group.{range_words};
 ghost use Rattle.nuorpyts.specs.Block.{scan_after, Scanned-in, get_in, got_code, got_after, group_in};
 
 use answers::codes::{NONE, OUTSIDE};
-use answers::group::range_numbers;
-use answers::record::{record_in, record_numbers};
-use answers::words::put_numbers;
+use answers::layout::{Layout, put_answer};
+use answers::record::record_in;
 use fields::part::Part;
 use lookup::by_number::{get, group};
-use protobuf::refusal::{Refusal, number};
+use protobuf::refusal::Refusal;
 use wire::scan::scan;
 
 // The block in the buffer's first `block` bytes is scanned: the record goes to `out`, and the tables go right behind the block. 14 first
@@ -24,8 +23,7 @@ use wire::scan::scan;
 // premise.
 #[unsafe(no_mangle)]
 pub extern "C" fn nuorpyts_scan(buffer: &mut [u8], block: usize, out: &mut [u8]) -> u32
-    ensures code { result ≡ answer_code 9 out.old (each meta (scanned buffer.old block)) }
-    ensures answer { out.new ≡ answer_after record_words out.old (each meta (scanned buffer.old block)) }
+    ensures answer { Answers 9 record_words out.old (each meta (scanned buffer.old block)) result out.new }
     ensures after { buffer.new ≡ scan_after buffer.old block out.old }
     ensures room { 5 * block ≤ length buffer.old → result ≡ 13 → ⊥ }
     ensures held { length buffer.old < 2 ^ 64 }
@@ -33,14 +31,7 @@ pub extern "C" fn nuorpyts_scan(buffer: &mut [u8], block: usize, out: &mut [u8])
     if out.len() < 72 {
         return OUTSIDE;
     }
-    let s = scan(buffer, block);
-    match s {
-        Err(n) => number(n),
-        Ok(r) => {
-            put_numbers(out, &record_numbers(r));
-            0
-        }
-    }
+    put_answer(out, scan(buffer, block))
 }
 
 // A range that was looked up, or none, into an answer's slice; and its code.
@@ -49,10 +40,10 @@ pub(crate) fn give_range(got: Result<Option<Part>, Refusal>, out: &mut [u8]) -> 
     ensures after { out.new ≡ got_after out.old got }
 {
     match got {
-        Err(n) => number(n),
+        Err(n) => u32::from(n),
         Ok(None) => NONE,
         Ok(Some(part)) => {
-            put_numbers(out, &range_numbers(part));
+            Layout::<2>::put(part, out);
             0
         }
     }
@@ -78,8 +69,7 @@ pub extern "C" fn nuorpyts_get(buffer: &[u8], rec: &[u8], index: usize, out: &mu
     if out.len() < 16 {
         return OUTSIDE;
     }
-    let got = get_in(buffer, rec, index);
-    give_range(got, out)
+    give_range(get_in(buffer, rec, index), out)
 }
 
 // The group of a number, by the record in a slice.
@@ -95,19 +85,8 @@ fn group_in(buffer: &[u8], rec: &[u8], index: usize) -> Result<Part, Refusal>
 // block's own group of that number, and 14 at the count and behind it.
 #[unsafe(no_mangle)]
 pub extern "C" fn nuorpyts_group(buffer: &[u8], rec: &[u8], index: usize, out: &mut [u8]) -> u32
-    ensures code { result ≡ answer_code 2 out.old (group_in buffer.now rec.now index) }
-    ensures after { out.new ≡ answer_after range_words out.old (group_in buffer.now rec.now index) }
-    ensures scanned { (b : List ℕ) (n : ℕ) → Scanned-in buffer.now rec.now b n → (result ≡ answer_code 2 out.old (group_of (take n b) index)) × (out.new ≡ answer_after range_words out.old (group_of (take n b) index)) }
+    ensures answer { Answers 2 range_words out.old (group_in buffer.now rec.now index) result out.new }
+    ensures scanned { (b : List ℕ) (n : ℕ) → Scanned-in buffer.now rec.now b n → Answers 2 range_words out.old (group_of (take n b) index) result out.new }
 {
-    if out.len() < 16 {
-        return OUTSIDE;
-    }
-    let found = group_in(buffer, rec, index);
-    match found {
-        Err(n) => number(n),
-        Ok(part) => {
-            put_numbers(out, &range_numbers(part));
-            0
-        }
-    }
+    put_answer::<2, Part>(out, group_in(buffer, rec, index))
 }

@@ -7,7 +7,7 @@ ghost use Rattle.nuorpyts.specs.Check.{check_in, check_code};
 
 use accept::check::check;
 use answers::record::record_in;
-use protobuf::refusal::{Refusal, number};
+use protobuf::refusal::Refusal;
 
 // The check, by the record in a slice.
 fn check_in(buffer: &[u8], rec: &[u8]) -> Result<(), Refusal>
@@ -27,6 +27,6 @@ pub extern "C" fn nuorpyts_check(buffer: &[u8], rec: &[u8]) -> u32
     let checked = check_in(buffer, rec);
     match checked {
         Ok(()) => 0,
-        Err(n) => number(n),
+        Err(n) => u32::from(n),
     }
 }

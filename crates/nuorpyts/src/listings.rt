@@ -1,14 +1,13 @@
 // Whether two scanned blocks list the same, through C.
 ghost use Rattle.std.specs.Prelude.{◌≡◌, List, ℕ, ◌≤◌, length, take};
 ghost use Rattle.block.specs.Content.{content};
-ghost use Rattle.answers.specs.Codes.{answer_code, answer_after};
+ghost use Rattle.answers.specs.Codes.{Answers};
 ghost use Rattle.nuorpyts.specs.Chains.{Accepted-in};
 ghost use Rattle.nuorpyts.specs.Same.{same_in, same_words, SameTold};
 
-use answers::codes::OUTSIDE;
+use answers::layout::put_answer;
 use answers::record::record_in;
-use answers::words::put_numbers;
-use protobuf::refusal::{Refusal, number};
+use protobuf::refusal::Refusal;
 use same::listing::same_listing;
 
 // Whether two scanned blocks list the same, by the records in two slices.
@@ -32,19 +31,8 @@ pub extern "C" fn nuorpyts_same_listing(
     b: &[u8],
     out: &mut [u8],
 ) -> u32
-    ensures code { result ≡ answer_code 1 out.old (same_in first.now a.now second.now b.now) }
-    ensures after { out.new ≡ answer_after same_words out.old (same_in first.now a.now second.now b.now) }
+    ensures answer { Answers 1 same_words out.old (same_in first.now a.now second.now b.now) result out.new }
     ensures decides { (b1 : List ℕ) (n1 : ℕ) (b2 : List ℕ) (n2 : ℕ) → 8 ≤ length out.old → Accepted-in first.now a.now b1 n1 → Accepted-in second.now b.now b2 n2 → SameTold (content (take n1 b1) ≡ content (take n2 b2)) out.old result out.new }
 {
-    if out.len() < 8 {
-        return OUTSIDE;
-    }
-    let compared = same_in(first, a, second, b);
-    match compared {
-        Err(n) => number(n),
-        Ok(same) => {
-            put_numbers(out, &[same as u64]);
-            0
-        }
-    }
+    put_answer(out, same_in(first, a, second, b))
 }

@@ -9,16 +9,10 @@ ghost use Rattle.views.specs.Relation.{relation_at};
 ghost use Rattle.views.specs.DenseNodes.{dense_nodes_at};
 ghost use Rattle.views.specs.DenseInfo.{dense_info_at};
 ghost use Rattle.views.specs.Info.{info_of};
-ghost use Rattle.answers.specs.Codes.{answer_code, answer_after};
-ghost use Rattle.layouts.specs.Views.{node_words, way_words, relation_words, dense_nodes_words, dense_info_words, info_words};
+ghost use Rattle.answers.specs.Codes.{Answers};
+ghost use Rattle.answers.specs.Views.{node_words, way_words, relation_words, dense_nodes_words, dense_info_words, info_words};
 
-use answers::codes::OUTSIDE;
-use answers::words::put_numbers;
-use layouts::messages::{
-    dense_info_numbers, dense_nodes_numbers, info_numbers, node_numbers, relation_numbers,
-    way_numbers,
-};
-use protobuf::refusal::number;
+use answers::layout::put_answer;
 use views::dense_info::WireDenseInfo;
 use views::dense_nodes::WireDenseNodes;
 use views::info::WireInfo;
@@ -30,58 +24,25 @@ use views::way::WireWay;
 // The Node in `len` bytes from `start`: 14 where `out` is too short for its numbers, then what `WireNode::parse` refuses.
 #[unsafe(no_mangle)]
 pub extern "C" fn nuorpyts_node(buffer: &[u8], start: usize, len: usize, out: &mut [u8]) -> u32
-    ensures code { result ≡ answer_code 12 out.old (each (node_at start) (view_in node buffer.now start len)) }
-    ensures after { out.new ≡ answer_after node_words out.old (each (node_at start) (view_in node buffer.now start len)) }
+    ensures { Answers 12 node_words out.old (each (node_at start) (view_in node buffer.now start len)) result out.new }
 {
-    if out.len() < 96 {
-        return OUTSIDE;
-    }
-    let r = WireNode::parse(buffer, start, len);
-    match r {
-        Err(n) => number(n),
-        Ok(v) => {
-            put_numbers(out, &node_numbers(v));
-            0
-        }
-    }
+    put_answer(out, WireNode::parse(buffer, start, len))
 }
 
 // The Way in `len` bytes from `start`: 14 where `out` is too short for its numbers, then what `WireWay::parse` refuses.
 #[unsafe(no_mangle)]
 pub extern "C" fn nuorpyts_way(buffer: &[u8], start: usize, len: usize, out: &mut [u8]) -> u32
-    ensures code { result ≡ answer_code 22 out.old (each (way_at start) (view_in way buffer.now start len)) }
-    ensures after { out.new ≡ answer_after way_words out.old (each (way_at start) (view_in way buffer.now start len)) }
+    ensures { Answers 22 way_words out.old (each (way_at start) (view_in way buffer.now start len)) result out.new }
 {
-    if out.len() < 176 {
-        return OUTSIDE;
-    }
-    let r = WireWay::parse(buffer, start, len);
-    match r {
-        Err(n) => number(n),
-        Ok(v) => {
-            put_numbers(out, &way_numbers(v));
-            0
-        }
-    }
+    put_answer(out, WireWay::parse(buffer, start, len))
 }
 
 // The Relation in `len` bytes from `start`: 14 where `out` is too short for its numbers, then what `WireRelation::parse` refuses.
 #[unsafe(no_mangle)]
 pub extern "C" fn nuorpyts_relation(buffer: &[u8], start: usize, len: usize, out: &mut [u8]) -> u32
-    ensures code { result ≡ answer_code 19 out.old (each (relation_at start) (view_in relation buffer.now start len)) }
-    ensures after { out.new ≡ answer_after relation_words out.old (each (relation_at start) (view_in relation buffer.now start len)) }
+    ensures { Answers 19 relation_words out.old (each (relation_at start) (view_in relation buffer.now start len)) result out.new }
 {
-    if out.len() < 152 {
-        return OUTSIDE;
-    }
-    let r = WireRelation::parse(buffer, start, len);
-    match r {
-        Err(n) => number(n),
-        Ok(v) => {
-            put_numbers(out, &relation_numbers(v));
-            0
-        }
-    }
+    put_answer(out, WireRelation::parse(buffer, start, len))
 }
 
 // The DenseNodes in `len` bytes from `start`: 14 where `out` is too short for its numbers, then what `WireDenseNodes::parse` refuses.
@@ -92,20 +53,9 @@ pub extern "C" fn nuorpyts_dense_nodes(
     len: usize,
     out: &mut [u8],
 ) -> u32
-    ensures code { result ≡ answer_code 15 out.old (each (dense_nodes_at start) (view_in dense_nodes buffer.now start len)) }
-    ensures after { out.new ≡ answer_after dense_nodes_words out.old (each (dense_nodes_at start) (view_in dense_nodes buffer.now start len)) }
+    ensures { Answers 15 dense_nodes_words out.old (each (dense_nodes_at start) (view_in dense_nodes buffer.now start len)) result out.new }
 {
-    if out.len() < 120 {
-        return OUTSIDE;
-    }
-    let r = WireDenseNodes::parse(buffer, start, len);
-    match r {
-        Err(n) => number(n),
-        Ok(v) => {
-            put_numbers(out, &dense_nodes_numbers(v));
-            0
-        }
-    }
+    put_answer(out, WireDenseNodes::parse(buffer, start, len))
 }
 
 // The DenseInfo in `len` bytes from `start`: 14 where `out` is too short for its numbers, then what `WireDenseInfo::parse` refuses.
@@ -116,37 +66,15 @@ pub extern "C" fn nuorpyts_dense_info(
     len: usize,
     out: &mut [u8],
 ) -> u32
-    ensures code { result ≡ answer_code 18 out.old (each (dense_info_at start) (view_in dense_info buffer.now start len)) }
-    ensures after { out.new ≡ answer_after dense_info_words out.old (each (dense_info_at start) (view_in dense_info buffer.now start len)) }
+    ensures { Answers 18 dense_info_words out.old (each (dense_info_at start) (view_in dense_info buffer.now start len)) result out.new }
 {
-    if out.len() < 144 {
-        return OUTSIDE;
-    }
-    let r = WireDenseInfo::parse(buffer, start, len);
-    match r {
-        Err(n) => number(n),
-        Ok(v) => {
-            put_numbers(out, &dense_info_numbers(v));
-            0
-        }
-    }
+    put_answer(out, WireDenseInfo::parse(buffer, start, len))
 }
 
 // The Info in `len` bytes from `start`: 14 where `out` is too short for its numbers, then what `WireInfo::parse` refuses.
 #[unsafe(no_mangle)]
 pub extern "C" fn nuorpyts_info(buffer: &[u8], start: usize, len: usize, out: &mut [u8]) -> u32
-    ensures code { result ≡ answer_code 12 out.old (each info_of (view_in info buffer.now start len)) }
-    ensures after { out.new ≡ answer_after info_words out.old (each info_of (view_in info buffer.now start len)) }
+    ensures { Answers 12 info_words out.old (each info_of (view_in info buffer.now start len)) result out.new }
 {
-    if out.len() < 96 {
-        return OUTSIDE;
-    }
-    let r = WireInfo::parse(buffer, start, len);
-    match r {
-        Err(n) => number(n),
-        Ok(v) => {
-            put_numbers(out, &info_numbers(v));
-            0
-        }
-    }
+    put_answer(out, WireInfo::parse(buffer, start, len))
 }

@@ -15,19 +15,20 @@ ghost use Rattle.nuorpyts.specs.Block.{Scanned-in, got_code, got_after};
 ghost use Rattle.nuorpyts.specs.Walks.{role_in, own_role};
 
 use crate::blocks::give_range;
-use answers::codes::OUTSIDE;
+use answers::codes::{OUTSIDE, code};
 use answers::record::record_in;
-use calls::references::{next_ref, next_refs};
+use calls::next::{next_many, next_one};
+use calls::references::{RefState, Refs, next_ref};
 use elements::members::{RelMemberIter, role_text};
 use elements::references::WayRefIter;
 use elements::tags::TagIter;
 use fields::part::Part;
-use member_calls::members::{next_member, next_members};
-use numbers::signed::{int32, is_int32};
+use member_calls::members::{MemberState, Members};
+use numbers::signed::{Signed, is_int32};
 use protobuf::refusal::Refusal;
-use start_calls::starts::{start_members, start_refs, start_tags};
-use tag_calls::raw_tags::{next_raw_tag, next_raw_tags};
-use tag_calls::tags::{next_tag, next_tags};
+use start_calls::starts::{members_of, refs_of, start, tags_of};
+use tag_calls::raw_tags::RawTags;
+use tag_calls::tags::{TagState, Tags};
 
 // The state before an element's tags, which every kind has, goes into the slot: 14 where the slot or the element is too short, or the
 // element's numbers are none of an element's; the slot, if it is long enough, then holds the ended state.
@@ -37,7 +38,7 @@ pub extern "C" fn nuorpyts_start_tags(element: &[u8], state: &mut [u8]) -> u32
     ensures next { state.new ≡ filled state.old (tag_words (started_by TagIter.Ended (tags_start_in element.now))) }
     ensures back { 40 ≤ length state.old → tags_at state.new ≡ started_by TagIter.Ended (tags_start_in element.now) }
 {
-    start_tags(element, state)
+    code(start::<TagState>(state, tags_of(element)))
 }
 
 // The same of a way's references; other elements have none, and the slot then holds the ended state, with code 0.
@@ -47,7 +48,7 @@ pub extern "C" fn nuorpyts_start_refs(element: &[u8], state: &mut [u8]) -> u32
     ensures next { state.new ≡ filled state.old (ref_words (started_by WayRefIter.Ended (refs_start_in element.now))) }
     ensures back { 32 ≤ length state.old → refs_at state.new ≡ started_by WayRefIter.Ended (refs_start_in element.now) }
 {
-    start_refs(element, state)
+    code(start::<RefState>(state, refs_of(element)))
 }
 
 // The same of a relation's members, of which other elements have none.
@@ -57,7 +58,7 @@ pub extern "C" fn nuorpyts_start_members(element: &[u8], state: &mut [u8]) -> u3
     ensures next { state.new ≡ filled state.old (member_words (started_by RelMemberIter.Ended (members_start_in element.now))) }
     ensures back { 64 ≤ length state.old → members_at state.new ≡ started_by RelMemberIter.Ended (members_start_in element.now) }
 {
-    start_members(element, state)
+    code(start::<MemberState>(state, members_of(element)))
 }
 
 // The next pair of a key and a value, with the state behind it: 14 where the slot is too short for a state, and 101 where it holds the
@@ -69,7 +70,7 @@ pub extern "C" fn nuorpyts_raw_tag(buffer: &[u8], state: &mut [u8], out: &mut [u
     ensures next { SlotLeft tags_at tag_words TagIter.Ended (raw_tags_from buffer.now) state.old (raw_tags_call buffer.now state.old (one_room 16 out.old)) state.new }
     ensures after { out.new ≡ items_put 16 raw_tag_item out.old 0 (items_of (raw_tags_call buffer.now state.old (one_room 16 out.old))) }
 {
-    next_raw_tag(buffer, state, out)
+    code(next_one::<TagState, RawTags>(buffer, Ok(()), state, out))
 }
 
 // As many pairs as `out` has room for, and how many they are: the codes are those of a call for one, with 14 also where the slice for the
@@ -86,7 +87,7 @@ pub extern "C" fn nuorpyts_raw_tags(
     ensures after { out.new ≡ items_put 16 raw_tag_item out.old 0 (items_of (raw_tags_call buffer.now state.old (room_for 16 out.old count.old))) }
     ensures counted { count.new ≡ count_after count.old (items_of (raw_tags_call buffer.now state.old (room_for 16 out.old count.old))) }
 {
-    next_raw_tags(buffer, state, out, count)
+    code(next_many::<TagState, RawTags>(buffer, Ok(()), state, out, count))
 }
 
 // The next tag with its two texts, with the state behind it: 14 where the slot is too short for a state, and 101 where it holds the ended
@@ -98,7 +99,7 @@ pub extern "C" fn nuorpyts_tag(buffer: &[u8], rec: &[u8], state: &mut [u8], out:
     ensures next { SlotLeft tags_at tag_words TagIter.Ended (tags_in buffer.now rec.now) state.old (tags_call buffer.now rec.now state.old (one_room 48 out.old)) state.new }
     ensures after { out.new ≡ items_put 48 tag_item out.old 0 (items_of (tags_call buffer.now rec.now state.old (one_room 48 out.old))) }
 {
-    next_tag(buffer, rec, state, out)
+    code(next_one::<TagState, Tags>(buffer, record_in(rec), state, out))
 }
 
 // As many tags with their texts as `out` has room for, and how many they are: the codes are those of a call for one, with 14 also where
@@ -116,7 +117,7 @@ pub extern "C" fn nuorpyts_tags(
     ensures after { out.new ≡ items_put 48 tag_item out.old 0 (items_of (tags_call buffer.now rec.now state.old (room_for 48 out.old count.old))) }
     ensures counted { count.new ≡ count_after count.old (items_of (tags_call buffer.now rec.now state.old (room_for 48 out.old count.old))) }
 {
-    next_tags(buffer, rec, state, out, count)
+    code(next_many::<TagState, Tags>(buffer, record_in(rec), state, out, count))
 }
 
 // The next reference, with the state behind it: 14 where the slot is too short for a state, and 101 where it holds the ended one; both
@@ -128,7 +129,7 @@ pub extern "C" fn nuorpyts_ref(buffer: &[u8], state: &mut [u8], out: &mut [u8]) 
     ensures next { SlotLeft refs_at ref_words WayRefIter.Ended (refs_from buffer.now) state.old (refs_call buffer.now state.old (one_room 8 out.old)) state.new }
     ensures after { out.new ≡ items_put 8 ref_item out.old 0 (items_of (refs_call buffer.now state.old (one_room 8 out.old))) }
 {
-    next_ref(buffer, state, out)
+    code(next_ref(buffer, state, out))
 }
 
 // As many references as `out` has room for, and how many they are: the codes are those of a call for one, with 14 also where the slice for
@@ -145,7 +146,7 @@ pub extern "C" fn nuorpyts_refs(
     ensures after { out.new ≡ items_put 8 ref_item out.old 0 (items_of (refs_call buffer.now state.old (room_for 8 out.old count.old))) }
     ensures counted { count.new ≡ count_after count.old (items_of (refs_call buffer.now state.old (room_for 8 out.old count.old))) }
 {
-    next_refs(buffer, state, out, count)
+    code(next_many::<RefState, Refs>(buffer, Ok(()), state, out, count))
 }
 
 // The next member, with the state behind it: 14 where the slot is too short for a state, and 101 where it holds the ended one; both leave
@@ -162,7 +163,7 @@ pub extern "C" fn nuorpyts_member(
     ensures next { SlotLeft members_at member_words RelMemberIter.Ended (members_in buffer.now rec.now) state.old (members_call buffer.now rec.now state.old (one_room 32 out.old)) state.new }
     ensures after { out.new ≡ items_put 32 member_item out.old 0 (items_of (members_call buffer.now rec.now state.old (one_room 32 out.old))) }
 {
-    next_member(buffer, rec, state, out)
+    code(next_one::<MemberState, Members>(buffer, record_in(rec), state, out))
 }
 
 // As many members as `out` has room for, and how many they are: the codes are those of a call for one, with 14 also where the slice for
@@ -180,7 +181,7 @@ pub extern "C" fn nuorpyts_members(
     ensures after { out.new ≡ items_put 32 member_item out.old 0 (items_of (members_call buffer.now rec.now state.old (room_for 32 out.old count.old))) }
     ensures counted { count.new ≡ count_after count.old (items_of (members_call buffer.now rec.now state.old (room_for 32 out.old count.old))) }
 {
-    next_members(buffer, rec, state, out, count)
+    code(next_many::<MemberState, Members>(buffer, record_in(rec), state, out, count))
 }
 
 // The text of a role, by the record in a slice: 14 where its number is no int32.
@@ -191,7 +192,7 @@ fn role_in(buffer: &[u8], rec: &[u8], role: usize) -> Result<Option<Part>, Refus
         return Err(Refusal::Outside);
     }
     let block = record_in(rec)?;
-    role_text(buffer, block, int32(role as u64))
+    role_text(buffer, block, i32::of_bits(role as u64))
 }
 
 // The range of the text of a role, whose number is given as its two's complement at 64 bits: start and length go to `out`. 14 first where

@@ -8,6 +8,7 @@ ghost use Rattle.walk_slots.specs.Slot.{walk_words, walk_at};
 ghost use Rattle.walk_calls.specs.Steps.{ElementsIn, walk_in, walk_call};
 ghost use Rattle.nuorpyts.specs.Chains.{Accepted-in, WholeIn};
 
+use answers::codes::code;
 use short_calls::short::short_step;
 use walk::state::BlockElementsIter;
 use walk_calls::steps::{next_step, next_steps, start_walk};
@@ -19,7 +20,7 @@ pub extern "C" fn nuorpyts_walk(state: &mut [u8]) -> u32
     ensures next { state.new ≡ choose (leb 272 (length state.old)) (filled state.old (walk_words (fresh false))) state.old }
     ensures back { result ≡ 0 → walk_at state.new ≡ fresh false }
 {
-    start_walk(state, false)
+    code(start_walk(state, false))
 }
 
 // The full walk at its start, in a slot: 14 where that is too short, which leaves it as it is.
@@ -29,7 +30,7 @@ pub extern "C" fn nuorpyts_walk_full(state: &mut [u8]) -> u32
     ensures next { state.new ≡ choose (leb 272 (length state.old)) (filled state.old (walk_words (fresh true))) state.old }
     ensures back { result ≡ 0 → walk_at state.new ≡ fresh true }
 {
-    start_walk(state, true)
+    code(start_walk(state, true))
 }
 
 // The next element, with the state behind it: 14 where the slot is too short for a state, and 101 where it holds the ended one; both leave
@@ -46,7 +47,7 @@ pub extern "C" fn nuorpyts_step(buffer: &[u8], rec: &[u8], state: &mut [u8], out
     if short_step(buffer, rec, state, out) {
         return 0;
     }
-    next_step(buffer, rec, state, out)
+    code(next_step(buffer, rec, state, out))
 }
 
 // The same: here a step is never quiet.
@@ -60,7 +61,7 @@ pub extern "C" fn nuorpyts_next(buffer: &[u8], rec: &[u8], state: &mut [u8], out
     if short_step(buffer, rec, state, out) {
         return 0;
     }
-    next_step(buffer, rec, state, out)
+    code(next_step(buffer, rec, state, out))
 }
 
 // As many elements as `out` has room for, and how many they are: the codes are those of a call for one, with 14 also where the slice for the
@@ -79,5 +80,5 @@ pub extern "C" fn nuorpyts_steps(
     ensures counted { count.new ≡ count_after count.old (items_of (walk_call buffer.now rec.now state.old (room_for 208 out.old count.old))) }
     ensures whole { (b : List ℕ) (n : ℕ) (s' : List ℕ) (rec' : List ℕ) (b' : List ℕ) (n' : ℕ) → Accepted-in buffer.now rec.now b n → Accepted-in s' rec' b' n' → WholeIn buffer.now rec.now b n s' rec' b' n' }
 {
-    next_steps(buffer, rec, state, out, count)
+    code(next_steps(buffer, rec, state, out, count))
 }

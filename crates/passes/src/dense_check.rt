@@ -11,39 +11,37 @@ use views::dense_info::WireDenseInfo;
 use views::dense_nodes::WireDenseNodes;
 use views::view::View;
 
-// Three columns, one after the other; their counts are not compared.
-fn read_three(s: &[u8], a: Part, b: Part, c: Part) -> Result<(), Refusal>
-    ensures { result ≡ all read_whole (ahead s.now (start_of a) ∷ ahead s.now (start_of b) ∷ ahead s.now (start_of c) ∷ []) }
+// Columns, one after the other; their counts are not compared.
+fn check_columns(s: &[u8], columns: &[Part]) -> Result<(), Refusal>
+    ensures { result ≡ all (λ part. read_whole (ahead s.now (start_of part))) columns.now }
 {
-    check_column(s, a)?;
-    check_column(s, b)?;
-    check_column(s, c)
+    for part in columns {
+        check_column(s, *part)?;
+    }
+    Ok(())
 }
 
 // The six columns of a DenseInfo, parts of its bytes.
 fn check_info_columns(s: &[u8], v: WireDenseInfo) -> Result<(), Refusal>
     ensures { result ≡ all read_whole (ahead s.now (start_of v.version) ∷ ahead s.now (start_of v.timestamp) ∷ ahead s.now (start_of v.changeset) ∷ ahead s.now (start_of v.uid) ∷ ahead s.now (start_of v.user) ∷ ahead s.now (start_of v.visible) ∷ []) }
 {
-    let version = v.version;
-    let timestamp = v.timestamp;
-    let changeset = v.changeset;
-    let uid = v.uid;
-    let user = v.user;
-    let visible = v.visible;
-    read_three(s, version, timestamp, changeset)?;
-    read_three(s, uid, user, visible)
+    let columns = [
+        v.version,
+        v.timestamp,
+        v.changeset,
+        v.uid,
+        v.user,
+        v.visible,
+    ];
+    check_columns(s, &columns)
 }
 
 // Ids, lats, lons and keys_vals of a dense message, parts of its bytes.
 fn check_rows(s: &[u8], v: WireDenseNodes) -> Result<(), Refusal>
     ensures { result ≡ check_rows (ahead s.now (start_of v.id)) (ahead s.now (start_of v.lat)) (ahead s.now (start_of v.lon)) (ahead s.now (start_of v.keyvals)) }
 {
-    let id = v.id;
-    let lat = v.lat;
-    let lon = v.lon;
-    let keyvals = v.keyvals;
-    let n = count_three(s, id, lat, lon)?;
-    check_pairs(s, start_column(keyvals), n)
+    let n = count_three(s, v.id, v.lat, v.lon)?;
+    check_pairs(s, start_column(v.keyvals), n)
 }
 
 // The whole of `s` as a dense message: accepted, or the first refusal of the message, of DenseInfo, of its ids, lats and lons or 12 of their counts,

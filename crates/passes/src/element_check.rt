@@ -1,4 +1,5 @@
-// The check of one node, way or relation: its message, its Info, keys, vals and their counts, and then what is its own.
+// The check of one node, way or relation: its message, its Info, keys, vals and their counts, and then what is its own. The three are written
+// out, since each is two or three calls, and a trait would name the parts of each message once more.
 ghost use Rattle.std.specs.Prelude.{◌≡◌};
 ghost use Rattle.block.specs.Check.{check_info, check_common, check_node, check_way, check_relation};
 ghost use Rattle.columns.specs.InStep.{ahead, start_of};

@@ -36,11 +36,15 @@ int32s = mapped (twos 32)
 abbrev pub uint32s : Column ℕ → Column ℕ
 uint32s = mapped λ n. n % 2 ^ 32
 
+-- of w bits
+abbrev pub sints : ℕ → Column ℕ → Column ℤ
+sints w = mapped (zigzag w)
+
 abbrev pub sint32s : Column ℕ → Column ℤ
-sint32s = mapped (zigzag 32)
+sint32s = sints 32
 
 abbrev pub sint64s : Column ℕ → Column ℤ
-sint64s = mapped (zigzag 64)
+sint64s = sints 64
 
 abbrev pub bools : Column ℕ → Column Bool
 bools = mapped λ n. not (eqb n 0)

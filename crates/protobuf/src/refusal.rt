@@ -1,44 +1,30 @@
-// The refusals of document 01's table, in its order; `specs/Refusal.antt` gives each its number.
-
+// The refusals of document 01's table, in its order, each with its number there; `specs/Refusal.antt` says the same.
 ghost use Rattle.std.specs.Prelude.{◌≡◌};
-ghost use Rattle.protobuf.specs.Refusal.{number as Refusal·number};
+ghost use Rattle.protobuf.specs.Refusal.{number};
 
-#[derive(Clone, Copy, Debug, PartialEq, Eq)]
+#[derive(Clone, Copy, Debug, PartialEq, Eq, Hash)]
 pub enum Refusal {
-    BlockTooLong,
-    VarintCut,
-    VarintLong,
-    TagValue,
-    WireType,
-    PastEnd,
-    GroupDepth,
-    Granularity,
-    SecondColumn,
-    SecondInfo,
-    SecondDense,
-    Counts,
-    NoRoom,
-    Outside,
+    BlockTooLong = 1,
+    VarintCut = 2,
+    VarintLong = 3,
+    TagValue = 4,
+    WireType = 5,
+    PastEnd = 6,
+    GroupDepth = 7,
+    Granularity = 8,
+    SecondColumn = 9,
+    SecondInfo = 10,
+    SecondDense = 11,
+    Counts = 12,
+    NoRoom = 13,
+    Outside = 14,
 }
 
 // The refusal's number in the table.
-pub fn number(r: Refusal) -> u32
-    ensures { result ≡ Refusal·number r }
-{
-    match r {
-        Refusal::BlockTooLong => 1,
-        Refusal::VarintCut => 2,
-        Refusal::VarintLong => 3,
-        Refusal::TagValue => 4,
-        Refusal::WireType => 5,
-        Refusal::PastEnd => 6,
-        Refusal::GroupDepth => 7,
-        Refusal::Granularity => 8,
-        Refusal::SecondColumn => 9,
-        Refusal::SecondInfo => 10,
-        Refusal::SecondDense => 11,
-        Refusal::Counts => 12,
-        Refusal::NoRoom => 13,
-        Refusal::Outside => 14,
+impl From<Refusal> for u32 {
+    ghost from_gives = { λ r n. n ≡ number r };
+
+    fn from(r: Refusal) -> u32 {
+        r as u32
     }
 }

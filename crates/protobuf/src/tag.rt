@@ -5,6 +5,7 @@ ghost use Rattle.protobuf.specs.Tag.{tag_at};
 use crate::refusal::Refusal;
 use crate::varint::read_varint;
 
+// The wire types stay numbers: who reads a payload may be given any number, and an enum would take fewer.
 pub const VARINT: u32 = 0;
 
 pub const I64: u32 = 1;

@@ -1,96 +1,135 @@
-// What a line is made of: text, bytes in hexadecimal, numbers in decimal, and refusals by their number in document 01's table. Each goes to
-// the writer that is passed along, and an error of the writer is handed back.
-ghost use Rattle.std.specs.Prelude.{◌≡◌, nat_abs};
-
-use protobuf::refusal::{Refusal, number};
-use std::io;
+// What a line is made of: the case (its label, its bytes in hexadecimal, the place where the reader starts) and, behind an arrow, what the
+// reader answers. An answer is a value that says itself by `Display`; a refusal is said by its number in document 01's table.
+use protobuf::refusal::Refusal;
 use std::io::Write;
+use std::{fmt, io};
 
-pub(crate) fn text<W: Write>(out: &mut W, s: &[u8]) -> io::Result<()> {
-    out.write_all(s)
+// Where a reader starts, as the line says it: at the first of the bytes, at a place, or from a place up to an end.
+#[derive(Clone, Copy)]
+enum Place {
+    First,
+    At(usize),
+    Between(usize, usize),
 }
 
-pub(crate) fn end_line<W: Write>(out: &mut W) -> io::Result<()> {
-    text(out, b"\n")
-}
-
-// A word or a mark, and the number behind it.
-pub(crate) fn named<W: Write>(out: &mut W, name: &[u8], n: u64) -> io::Result<()> {
-    text(out, name)?;
-    write!(out, "{n}")
-}
-
-// The magnitude of the least i64 is no i64, so below 0 it is counted from −1.
-fn magnitude(n: i64) -> u64
-    ensures { result ≡ nat_abs n }
-{
-    if n < 0 { (!n) as u64 + 1 } else { n as u64 }
-}
-
-// The same number in 64 bits.
-pub(crate) fn wide(n: i32) -> i64
-    ensures { result ≡ n }
-{
-    n as i64
-}
-
-pub(crate) fn named_signed<W: Write>(out: &mut W, name: &[u8], n: i64) -> io::Result<()> {
-    text(out, name)?;
-    if n < 0 {
-        text(out, b"-")?;
+impl fmt::Display for Place {
+    fn fmt<W: fmt::Write>(&self, f: &mut fmt::Formatter<W>) -> fmt::Result {
+        match self {
+            Place::First => Ok(()),
+            Place::At(at) => write!(f, " at {at}"),
+            Place::Between(at, end) => write!(f, " from {at} up to {end}"),
+        }
     }
-    let size = magnitude(n);
-    write!(out, "{size}")
 }
 
-fn byte<W: Write>(out: &mut W, b: u8) -> io::Result<()> {
-    text(out, b" ")?;
-    write!(out, "{b:02x}")
+// What a reader is given, and the label of its line.
+#[derive(Clone, Copy)]
+pub(crate) struct Case<'a> {
+    label: &'a str,
+    pub(crate) bytes: &'a [u8],
+    place: Place,
 }
 
-// A space and two digits for each byte.
-pub(crate) fn bytes<W: Write>(out: &mut W, s: &[u8]) -> io::Result<()> {
-    let mut i = 0;
-    while i < s.len() {
-        byte(out, s[i])?;
-        i += 1;
+impl<'a> Case<'a> {
+    pub(crate) fn new(label: &'a str, bytes: &'a [u8]) -> Self {
+        let place = Place::First;
+        Case {
+            label,
+            bytes,
+            place,
+        }
+    }
+
+    pub(crate) fn at(label: &'a str, bytes: &'a [u8], at: usize) -> Self {
+        let place = Place::At(at);
+        Case {
+            label,
+            bytes,
+            place,
+        }
+    }
+
+    pub(crate) fn between(label: &'a str, bytes: &'a [u8], at: usize, end: usize) -> Self {
+        let place = Place::Between(at, end);
+        Case {
+            label,
+            bytes,
+            place,
+        }
+    }
+
+    pub(crate) fn start(self) -> usize {
+        match self.place {
+            Place::First => 0,
+            Place::At(at) => at,
+            Place::Between(at, _) => at,
+        }
+    }
+
+    pub(crate) fn end(self) -> usize {
+        match self.place {
+            Place::Between(_, end) => end,
+            _ => self.bytes.len(),
+        }
+    }
+}
+
+impl fmt::Display for Case<'_> {
+    fn fmt<W: fmt::Write>(&self, f: &mut fmt::Formatter<W>) -> fmt::Result {
+        write!(f, "{}:{}{}", self.label, Hex(self.bytes), self.place)
+    }
+}
+
+// Bytes in hexadecimal, a space before each.
+#[derive(Clone, Copy)]
+pub(crate) struct Hex<'a>(pub(crate) &'a [u8]);
+
+impl fmt::Display for Hex<'_> {
+    fn fmt<W: fmt::Write>(&self, f: &mut fmt::Formatter<W>) -> fmt::Result {
+        for byte in self.0 {
+            write!(f, " {byte:02x}")?;
+        }
+        Ok(())
+    }
+}
+
+// What a reader answers: a value, or the refusal.
+#[derive(Clone, Copy)]
+pub(crate) struct Answer<T>(pub(crate) Result<T, Refusal>);
+
+impl<T: fmt::Display> fmt::Display for Answer<T> {
+    fn fmt<W: fmt::Write>(&self, f: &mut fmt::Formatter<W>) -> fmt::Result {
+        match &self.0 {
+            Ok(value) => write!(f, "{value}"),
+            Err(refusal) => write!(f, " refused {}", u32::from(*refusal)),
+        }
+    }
+}
+
+// What stands where a field may begin: a value, or the end of the message.
+#[derive(Clone, Copy)]
+pub(crate) struct Found<T>(pub(crate) Option<T>);
+
+impl<T: fmt::Display> fmt::Display for Found<T> {
+    fn fmt<W: fmt::Write>(&self, f: &mut fmt::Formatter<W>) -> fmt::Result {
+        match &self.0 {
+            Some(value) => write!(f, "{value}"),
+            None => f.write_str(" done"),
+        }
+    }
+}
+
+// A line for each case, with what `read` answers to it.
+pub(crate) fn lines<'a, W: Write, A: fmt::Display + Drop, F: Fn(Case<'a>) -> A>(
+    out: &mut W,
+    cases: &[Case<'a>],
+    read: F,
+) -> io::Result<()>
+    requires { F.IsAlwaysCallable read }
+{
+    for case in cases {
+        let answer = read(*case);
+        writeln!(out, "{case} ->{answer}")?;
     }
     Ok(())
-}
-
-fn labelled<W: Write>(out: &mut W, label: &[u8], s: &[u8]) -> io::Result<()> {
-    text(out, label)?;
-    text(out, b":")?;
-    bytes(out, s)
-}
-
-// How a line begins whose reader starts at the first of the bytes.
-pub(crate) fn input<W: Write>(out: &mut W, label: &[u8], s: &[u8]) -> io::Result<()> {
-    labelled(out, label, s)?;
-    text(out, b" ->")
-}
-
-// How one begins where the place is a part of the case.
-pub(crate) fn input_at<W: Write>(out: &mut W, label: &[u8], s: &[u8], at: usize) -> io::Result<()> {
-    labelled(out, label, s)?;
-    named(out, b" at ", at as u64)?;
-    text(out, b" ->")
-}
-
-// How one begins where the place and the end are.
-pub(crate) fn input_between<W: Write>(
-    out: &mut W,
-    label: &[u8],
-    s: &[u8],
-    at: usize,
-    end: usize,
-) -> io::Result<()> {
-    labelled(out, label, s)?;
-    named(out, b" from ", at as u64)?;
-    named(out, b" up to ", end as u64)?;
-    text(out, b" ->")
-}
-
-pub(crate) fn refused<W: Write>(out: &mut W, r: Refusal) -> io::Result<()> {
-    named(out, b" refused ", number(r) as u64)
 }

@@ -1,101 +1,49 @@
-// A line of the list, read from left to right: the kind of walk, by whom it was answered, the digits of the block, and the answer's text.
+// A line of the list taken apart: the kind of walk, the digits of the block, and the answer's text.
 //
 //     plain p x12071a054203020201 = w 0 0 . 1 2 1 . .
-ghost use Rattle.std.specs.Prelude.{◌≤◌};
+use replaying::list::halves;
 
-use crate::words::{NOWHERE, pass_sign, pass_text};
-
-// The most bytes of a block with its tables.
-pub(crate) const BYTES: usize = 4096;
-
-// What a line is.
-#[derive(Clone, Copy)]
+// The kinds of walk that are asked for: without metadata, or with it.
+#[derive(Clone, Copy, Debug, PartialEq, Eq)]
 pub(crate) enum Kind {
-    Comment,
     Plain,
     Full,
-    Other,
 }
 
-fn pass_kind(line: &[u8], full: bool) -> usize {
-    if full {
-        pass_text(line, 0, b"full")
-    } else {
-        pass_text(line, 0, b"plain")
-    }
-}
+// A word that names no kind of walk.
+#[derive(Clone, Copy, Debug, PartialEq, Eq)]
+pub(crate) struct NoKind;
 
-pub(crate) fn kind_of(line: &[u8]) -> Kind {
-    if pass_text(line, 0, b"#") != NOWHERE {
-        return Kind::Comment;
-    }
-    if pass_kind(line, false) != NOWHERE {
-        return Kind::Plain;
-    }
-    if pass_kind(line, true) != NOWHERE {
-        return Kind::Full;
-    }
-    Kind::Other
-}
+impl TryFrom<&[u8]> for Kind {
+    type Error = NoKind;
 
-// The bytes from a place on, none where that is no place in them.
-pub(crate) fn rest(s: &[u8], from: usize) -> &[u8] {
-    if s.len() < from {
-        return &s[0..0];
-    }
-    &s[from..]
-}
-
-// The letter of who answered: the published Rust, or the simple reader alone.
-fn pass_by(line: &[u8], at: usize) -> usize {
-    let published = pass_sign(line, at, b'p');
-    if published == NOWHERE {
-        pass_sign(line, at, b'r')
-    } else {
-        published
-    }
-}
-
-// What follows the `x` before the block's digits, in a line that asks for a full walk or a plain one.
-pub(crate) fn digits_on(line: &[u8], full: bool) -> &[u8] {
-    let by = pass_by(line, pass_kind(line, full));
-    rest(line, pass_sign(line, by, b'x'))
-}
-
-// The value of a hexadecimal digit, 16 of any other byte.
-fn nibble(byte: u8) -> u8 {
-    match byte {
-        48..=57 => byte - 48,
-        97..=102 => byte - 87,
-        _ => 16,
-    }
-}
-
-// The digit at a place, 16 behind the end.
-fn nibble_at(digits: &[u8], at: usize) -> u8 {
-    if at < digits.len() {
-        nibble(digits[at])
-    } else {
-        16
-    }
-}
-
-// The block that pairs of digits spell, at the start of an array, and how many bytes it has.
-pub(crate) fn decode(digits: &[u8], buf: &mut [u8; BYTES]) -> usize
-    ensures { result ≤ 4096 }
-{
-    let mut n = 0;
-    while n < BYTES {
-        let high = nibble_at(digits, 2 * n);
-        let low = nibble_at(digits, 2 * n + 1);
-        if 15 < high {
-            return n;
+    fn try_from(name: &[u8]) -> Result<Kind, NoKind> {
+        match name {
+            b"plain" => Ok(Kind::Plain),
+            b"full" => Ok(Kind::Full),
+            _ => Err(NoKind),
         }
-        if 15 < low {
-            return n;
-        }
-        buf[n] = high * 16 + low;
-        n += 1;
     }
-    n
+}
+
+// What a line asks: the walk of the block that the digits spell, and the text that it is to give.
+#[derive(Clone, Copy)]
+pub(crate) struct Question<'a> {
+    pub(crate) digits: &'a [u8],
+    pub(crate) text: &'a [u8],
+}
+
+// The question of a line. It was answered by the published Rust (`p`), or by the simple reader alone (`r`).
+pub(crate) fn question_of(line: &[u8]) -> Option<Question<'_>> {
+    let (words, text) = halves(line)?;
+    let mut words = words.split(|byte| *byte == b' ').skip(1);
+    match words.next()? {
+        b"p" | b"r" => {}
+        _ => return None,
+    }
+    let digits = words.next()?.strip_prefix(b"x")?;
+    if words.next().is_some() {
+        return None;
+    }
+    Some(Question { digits, text })
 }

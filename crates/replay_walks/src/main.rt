@@ -4,191 +4,124 @@
 #![tactic(auto)]
 
 mod element;
-mod items;
+mod followed;
 mod line;
+mod lists;
 mod steps;
 mod tally;
-mod words;
 
-ghost use Rattle.std.specs.Prelude.{◌≡◌, ◌≤◌, length, IfOk};
-
-use fields::part::{Part, bytes_of};
-use line::{BYTES, Kind, decode, digits_on, kind_of, rest};
-use memchr::memchr;
+use followed::Followed;
+use line::{Kind, Question, question_of};
+use lists::Walked;
 use protobuf::refusal::Refusal;
+use replaying::list::{BYTES, LIST, decode, first_word, list_buffer, read_full, text_of};
+use replaying::tables::block_and_tables;
+use replaying::words::Code;
 use std::fs::File;
-use std::io;
-use std::io::{Read, Write};
-use steps::{How, Passed, pass_walk};
-use tally::{Counts, Outcome, Tally, counted, more, nothing, print, print_tally};
+use std::io::Write;
+use std::{fmt, io};
+use steps::follow_walk;
+use tally::{Outcome, Tally};
 use wire::record::WireBlock;
 use wire::scan::scan;
-use words::{NOWHERE, pass_refusal, pass_text};
 
-// The most bytes of the list.
-const LIST: usize = 262144;
-
-// Room for the list.
-fn list_buffer() -> [u8; LIST]
-    ensures { 262144 ≡ length result }
-{
-    [0; LIST]
-}
-
-// Whether a text was followed to its end.
-fn is_whole(text: &[u8], at: usize) -> bool {
-    at == text.len()
-}
-
-// What two walks over one block come to: both have to give the text.
-fn outcome_of(text: &[u8], a: Passed, b: Passed) -> Outcome {
-    if !is_whole(text, a.at) {
-        return Outcome::Different;
-    }
-    if !is_whole(text, b.at) {
-        return Outcome::Different;
-    }
-    if a.refused {
-        Outcome::Stopped
-    } else {
-        Outcome::Ended
-    }
-}
-
-// Both walks over a scanned block.
-fn walk_both(text: &[u8], s: &[u8], block: WireBlock, full: bool) -> Outcome {
-    let a = pass_walk(text, s, block, How { full, other: false });
-    let b = pass_walk(text, s, block, How { full, other: true });
-    outcome_of(text, a, b)
+// Both walks over a scanned block have to give the text: the refusal that ended them.
+fn walk_both(
+    text: &[u8],
+    s: &[u8],
+    block: WireBlock,
+    full: bool,
+) -> Result<Option<Refusal>, fmt::Error> {
+    let of = Walked {
+        s,
+        block,
+        full,
+        other: false,
+    };
+    follow_walk(text, of)?;
+    follow_walk(text, Walked { other: true, ..of })
 }
 
 // The answer where the block could not be scanned.
-fn unscanned(text: &[u8], n: Refusal) -> Outcome {
-    let said = pass_text(text, 0, b" unscanned");
-    if is_whole(text, pass_refusal(text, said, n)) {
-        Outcome::Stopped
+fn unscanned(text: &[u8], refusal: Refusal) -> Result<Option<Refusal>, fmt::Error> {
+    let mut text = Followed::new(text);
+    fmt::Write::write_fmt(&mut text, format_args!(" unscanned {}", Code(refusal)))?;
+    if text.is_whole() {
+        Ok(Some(refusal))
     } else {
-        Outcome::Different
+        Err(fmt::Error)
     }
-}
-
-// A scanned block with its tables: the buffer up to the end of its group table, which has fewer entries than the array has bytes.
-fn block_and_tables(buffer: &[u8], block: WireBlock) -> &[u8] {
-    if BYTES < block.groups {
-        return &buffer[0..0];
-    }
-    let len = block.grouptable.wrapping_add(8 * block.groups);
-    bytes_of(
-        buffer,
-        Part {
-            present: true,
-            start: 0,
-            len,
-        },
-    )
 }
 
 // The block in the first `len` bytes of a buffer, scanned there. Behind its tables the buffer is cut off.
-fn walk_block(text: &[u8], buffer: &mut [u8], len: usize, full: bool) -> Outcome {
-    let r = scan(buffer, len);
-    match r {
-        Err(n) => unscanned(text, n),
-        Ok(block) => { walk_both(text, block_and_tables(buffer, block), block, full) }
+fn walk_block(
+    text: &[u8],
+    buffer: &mut [u8],
+    len: usize,
+    full: bool,
+) -> Result<Option<Refusal>, fmt::Error> {
+    match scan(buffer, len) {
+        Err(refusal) => unscanned(text, refusal),
+        Ok(block) => walk_both(text, block_and_tables(buffer, block), block, full),
     }
 }
 
-// The same in the array that holds the block.
-fn walk_array(text: &[u8], buf: &mut [u8; BYTES], len: usize, full: bool) -> Outcome {
-    walk_block(text, buf, len, full)
-}
-
-// The question of a line, for a full walk or a plain one. Its digits go on to an equals sign, and behind that is the answer's text.
-fn ask(line: &[u8], full: bool) -> Outcome {
+// How a question comes out.
+fn ask(kind: Kind, question: Question) -> Outcome {
     let mut buf = [0xa5u8; BYTES];
-    let digits = digits_on(line, full);
-    let len = decode(digits, &mut buf);
-    let answer = pass_text(digits, 2 * len, b" =");
-    if answer == NOWHERE {
+    let Some(len) = decode(question.digits, &mut buf) else {
         return Outcome::NotRead;
+    };
+    match walk_block(question.text, &mut buf, len, kind == Kind::Full) {
+        Ok(None) => Outcome::Ended,
+        Ok(Some(_)) => Outcome::Stopped,
+        Err(_) => Outcome::Different,
     }
-    walk_array(rest(digits, answer), &mut buf, len, full)
 }
 
-// A line that differs or cannot be read is printed whole.
-fn show<W: Write>(report: &mut W, label: &[u8], line: &[u8]) -> io::Result<()> {
-    print(report, label)?;
-    print(report, line)?;
-    print(report, b"\n")
+// What is told of the list, and what was counted so far.
+#[derive(Drop)]
+struct Replay<W> {
+    report: W,
+    tally: Tally,
 }
 
-// Asks a line's question and counts how it came out.
-fn take_walk<W: Write>(report: &mut W, c: Counts, line: &[u8], full: bool) -> io::Result<Counts> {
-    let outcome = ask(line, full);
-    match outcome {
-        Outcome::Ended => {}
-        Outcome::Stopped => {}
-        Outcome::Different => show(report, b"different: ", line)?,
-        Outcome::NotRead => show(report, b"not read: ", line)?,
+impl<W: Write> Replay<W> {
+    // A line that differs or cannot be read is printed whole.
+    fn show(&mut self, label: &[u8], line: &[u8]) -> io::Result<()> {
+        self.report.write_all(label)?;
+        self.report.write_all(line)?;
+        self.report.write_all(b"\n")
     }
-    Ok(counted(c, outcome))
-}
 
-// One line of the list.
-fn take_line<W: Write>(report: &mut W, t: Tally, line: &[u8]) -> io::Result<Tally> {
-    let mut next = t;
-    let kind = kind_of(line);
-    match kind {
-        Kind::Comment => {}
-        Kind::Plain => {
-            let c = take_walk(report, t.plain, line, false)?;
-            next.plain = c;
+    // One line of the list.
+    fn take_line(&mut self, line: &[u8]) -> io::Result<()> {
+        if line.first() == Some(&b'#') {
+            return Ok(());
         }
-        Kind::Full => {
-            let c = take_walk(report, t.full, line, true)?;
-            next.full = c;
+        let Ok(kind) = Kind::try_from(first_word(line)) else {
+            self.tally.count_other();
+            return Ok(());
+        };
+        let outcome = match question_of(line) {
+            Some(question) => ask(kind, question),
+            None => Outcome::NotRead,
+        };
+        self.tally.count(kind, outcome);
+        match outcome {
+            Outcome::Ended | Outcome::Stopped => Ok(()),
+            Outcome::Different => self.show(b"different: ", line),
+            Outcome::NotRead => self.show(b"not read: ", line),
         }
-        Kind::Other => next.other = more(t.other),
     }
-    Ok(next)
-}
 
-// The place of the first such byte from a place on, or the end.
-fn find(s: &[u8], from: usize, byte: u8) -> usize
-    requires { from ≤ length s.now }
-    ensures start { from ≤ result }
-    ensures end { result ≤ length s.now }
-{
-    match memchr(byte, &s[from..]) {
-        Some(n) => from + n,
-        None => s.len(),
-    }
-}
-
-// All lines of the list.
-fn take_lines<W: Write>(report: &mut W, list: &[u8]) -> io::Result<Tally> {
-    let mut t = nothing();
-    let mut from = 0;
-    while from < list.len() {
-        let to = find(list, from, b'\n');
-        t = take_line(report, t, &list[from..to])?;
-        from = to + 1;
-    }
-    Ok(t)
-}
-
-// Fills a buffer from a file's start, as far as the file goes, and says how many bytes were read.
-fn read_full<R: Read>(file: &mut R, buf: &mut [u8]) -> io::Result<usize>
-    ensures { IfOk result (λ n. n ≤ length buf.new) }
-{
-    let mut n = 0;
-    while n < buf.len() {
-        let more = file.read(&mut buf[n..])?;
-        if more == 0 {
-            return Ok(n);
+    // All lines of the list.
+    fn replay(&mut self, list: &[u8]) -> io::Result<()> {
+        for line in list.split_inclusive(|byte| *byte == b'\n') {
+            self.take_line(text_of(line))?;
         }
-        n += more;
+        self.tally.print(&mut self.report)
     }
-    Ok(n)
 }
 
 fn main(rt: HostRuntime) -> io::Result<()> {
@@ -197,8 +130,11 @@ fn main(rt: HostRuntime) -> io::Result<()> {
     let mut file = File::open(&rt, "walks.txt")?;
     let n = read_full(&mut file, &mut buf)?;
     if n == LIST {
-        print(&mut report, b"the list may be longer than what was read\n")?;
+        writeln!(report, "the list may be longer than what was read")?;
     }
-    let t = take_lines(&mut report, &buf[..n])?;
-    print_tally(&mut report, t)
+    let mut replay = Replay {
+        report,
+        tally: Tally::NOTHING,
+    };
+    replay.replay(&buf[..n])
 }

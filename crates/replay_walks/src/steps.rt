@@ -1,111 +1,104 @@
 // A walk in an answer's text: the elements that its steps hand out, and how it ends.
-use crate::element::pass_element;
-use crate::words::{NOWHERE, pass_end, pass_stop};
+use crate::followed::Followed;
+use crate::lists::{Answer, List, Walked};
+use elements::element::Element;
+use fields::step::Step;
+use protobuf::refusal::Refusal;
+use std::fmt;
 use walk::block_elements::{ElementStep, Said};
 use walk::state::BlockElementsIter;
-use wire::record::WireBlock;
 
-// How a block is walked: with metadata or without, and by which of the calls that give the same: `other` begins with `next`, and has tags by
-// `step_raw`.
+// A walk, and whether its next step is made by `next` or by `step`.
 #[derive(Clone, Copy)]
-pub(crate) struct How {
-    pub(crate) full: bool,
-    pub(crate) other: bool,
+struct Walk {
+    state: BlockElementsIter,
+    by_next: bool,
 }
 
-// Where the text was followed to, whether the walk is over, and whether a refusal ended it.
+// An element, and the number of its group.
 #[derive(Clone, Copy)]
-pub(crate) struct Passed {
-    pub(crate) at: usize,
-    pub(crate) over: bool,
-    pub(crate) refused: bool,
-}
-
-fn start_walk(full: bool) -> BlockElementsIter {
-    if full {
-        BlockElementsIter::new()
-    } else {
-        BlockElementsIter::new_skip_metadata()
-    }
-}
-
-// The next step, by `next` or by `step`.
-fn step_by(s: &[u8], block: WireBlock, walk: BlockElementsIter, next: bool) -> ElementStep {
-    if next {
-        walk.next(s, block)
-    } else {
-        walk.step(s, block)
-    }
+struct Found {
+    group: usize,
+    element: Element,
 }
 
 // What a step said: an element, the end, or a refusal.
-fn pass_said(text: &[u8], at: usize, s: &[u8], block: WireBlock, how: How, said: Said) -> Passed {
+fn said_of(said: Said) -> Result<Option<Found>, Refusal> {
     match said {
-        Said::Ended => Passed {
-            at: pass_end(text, at),
-            over: true,
-            refused: false,
-        },
-        Said::Refused(n) => Passed {
-            at: pass_stop(text, at, n),
-            over: true,
-            refused: true,
-        },
+        Said::Ended => Ok(None),
+        Said::Refused(refusal) => Err(refusal),
         Said::Element {
             group,
             message: _,
             element,
-        } => Passed {
-            at: pass_element(text, at, s, block, how.full, how.other, group, element),
-            over: false,
-            refused: false,
-        },
+        } => Ok(Some(Found { group, element })),
     }
 }
 
-// Whether a walk's next step says ended.
-fn has_ended(s: &[u8], block: WireBlock, walk: BlockElementsIter) -> bool {
-    let r = walk.step(s, block);
-    let said = r.said;
-    match said {
-        Said::Ended => true,
-        _ => false,
-    }
-}
-
-// A walk that is over: the state behind it must be the ended one, else no text is right.
-fn close(s: &[u8], block: WireBlock, last: Passed, behind: BlockElementsIter) -> Passed {
-    if has_ended(s, block, behind) {
-        return last;
-    }
-    Passed {
-        at: NOWHERE,
-        over: true,
-        refused: last.refused,
-    }
-}
-
-// A block's walk, by `step` and `next` in turn.
-pub(crate) fn pass_walk(text: &[u8], s: &[u8], block: WireBlock, how: How) -> Passed {
-    let mut place = start_walk(how.full);
-    let mut next = how.other;
-    let mut at = 0;
-    let mut steps = 0;
-    while steps < text.len() {
-        let r = step_by(s, block, place, next);
-        let said = r.said;
-        let p = pass_said(text, at, s, block, how, said);
-        place = r.next;
-        at = p.at;
-        if p.over {
-            return close(s, block, p, place);
+impl Walk {
+    fn start(of: Walked) -> Walk {
+        let state = if of.full {
+            BlockElementsIter::new()
+        } else {
+            BlockElementsIter::new_skip_metadata()
+        };
+        Walk {
+            state,
+            by_next: of.other,
         }
-        next = !next;
-        steps += 1;
     }
-    Passed {
-        at: NOWHERE,
-        over: false,
-        refused: false,
+
+    fn step(self, of: Walked) -> ElementStep {
+        if self.by_next {
+            self.state.next(of.s, of.block)
+        } else {
+            self.state.step(of.s, of.block)
+        }
+    }
+
+    // Whether the next step says ended.
+    fn has_ended(self, of: Walked) -> bool {
+        let step = self.state.step(of.s, of.block);
+        let said = step.said;
+        match said {
+            Said::Ended => true,
+            _ => false,
+        }
+    }
+}
+
+impl List for Walk {
+    type Item = Found;
+
+    fn advance(self, of: Walked) -> Step<Found, Walk> {
+        let step = self.step(of);
+        let said = step.said;
+        Step {
+            said: said_of(said),
+            next: Walk {
+                state: step.next,
+                by_next: !self.by_next,
+            },
+        }
+    }
+
+    fn follow(answer: &mut Answer, found: Found) -> fmt::Result {
+        let element = found.element;
+        answer.element(found.group, element)
+    }
+}
+
+// A block's walk, by `step` and `next` in turn: the refusal that ended it. It has to give the whole text, and the state behind its end has to
+// be the ended one, else it is an error.
+pub(crate) fn follow_walk(text: &[u8], of: Walked) -> Result<Option<Refusal>, fmt::Error> {
+    let mut answer = Answer {
+        text: Followed::new(text),
+        of,
+    };
+    let (refusal, behind) = answer.list(Walk::start(of))?;
+    if answer.text.is_whole() && behind.has_ended(of) {
+        Ok(refusal)
+    } else {
+        Err(fmt::Error)
     }
 }

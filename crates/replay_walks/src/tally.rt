@@ -1,9 +1,10 @@
 // How the lines came out, by the kind of walk.
-use std::io;
+use crate::line::Kind;
 use std::io::Write;
+use std::{fmt, io};
 
 // How a line came out.
-#[derive(Clone, Copy)]
+#[derive(Clone, Copy, Debug, PartialEq, Eq)]
 pub(crate) enum Outcome {
     // The text agreed, and the walk came to its end.
     Ended,
@@ -15,90 +16,98 @@ pub(crate) enum Outcome {
 
 // The lines of a kind by how they came out.
 #[derive(Clone, Copy)]
-pub(crate) struct Counts {
-    pub(crate) ended: u64,
-    pub(crate) stopped: u64,
-    pub(crate) different: u64,
-    pub(crate) unread: u64,
+struct Counts {
+    ended: u64,
+    stopped: u64,
+    different: u64,
+    unread: u64,
 }
 
 // The lines of each kind, and how many lines ask for no walk.
 #[derive(Clone, Copy)]
 pub(crate) struct Tally {
-    pub(crate) plain: Counts,
-    pub(crate) full: Counts,
-    pub(crate) other: u64,
-}
-
-const ZERO: Counts = Counts {
-    ended: 0,
-    stopped: 0,
-    different: 0,
-    unread: 0,
-};
-
-// Before the first line.
-pub(crate) fn nothing() -> Tally {
-    Tally {
-        plain: ZERO,
-        full: ZERO,
-        other: 0,
-    }
+    plain: Counts,
+    full: Counts,
+    other: u64,
 }
 
 // One more. A list has fewer lines than 2^64.
-pub(crate) fn more(n: u64) -> u64 {
-    n.wrapping_add(1)
+fn more(n: u64) -> u64 {
+    n.saturating_add(1)
 }
 
-// A line more of a kind.
-pub(crate) fn counted(c: Counts, outcome: Outcome) -> Counts {
-    let mut next = c;
-    match outcome {
-        Outcome::Ended => next.ended = more(c.ended),
-        Outcome::Stopped => next.stopped = more(c.stopped),
-        Outcome::Different => next.different = more(c.different),
-        Outcome::NotRead => next.unread = more(c.unread),
+impl Counts {
+    const NONE: Counts = Counts {
+        ended: 0,
+        stopped: 0,
+        different: 0,
+        unread: 0,
+    };
+
+    // A line more.
+    fn count(&mut self, outcome: Outcome) {
+        match outcome {
+            Outcome::Ended => self.ended = more(self.ended),
+            Outcome::Stopped => self.stopped = more(self.stopped),
+            Outcome::Different => self.different = more(self.different),
+            Outcome::NotRead => self.unread = more(self.unread),
+        }
     }
-    next
-}
 
-fn sum(a: Counts, b: Counts) -> Counts {
-    Counts {
-        ended: a.ended.wrapping_add(b.ended),
-        stopped: a.stopped.wrapping_add(b.stopped),
-        different: a.different.wrapping_add(b.different),
-        unread: a.unread.wrapping_add(b.unread),
+    fn plus(self, other: Counts) -> Counts {
+        Counts {
+            ended: self.ended.saturating_add(other.ended),
+            stopped: self.stopped.saturating_add(other.stopped),
+            different: self.different.saturating_add(other.different),
+            unread: self.unread.saturating_add(other.unread),
+        }
     }
 }
 
-pub(crate) fn print<W: Write>(report: &mut W, s: &[u8]) -> io::Result<()> {
-    report.write_all(s)
+// How many walks were made over the blocks of a kind, how many of them gave the answer's text, and how many of those ended with a refusal.
+impl fmt::Display for Counts {
+    fn fmt<W: fmt::Write>(&self, f: &mut fmt::Formatter<W>) -> fmt::Result {
+        let agreed = self.ended.saturating_add(self.stopped);
+        let asked = agreed.saturating_add(self.different);
+        write!(
+            f,
+            "{asked} asked, {agreed} agreed, {} refused",
+            self.stopped
+        )
+    }
 }
 
-// A number with what it counts.
-fn print_count<W: Write>(report: &mut W, n: u64, what: &[u8]) -> io::Result<()> {
-    write!(report, "{n}")?;
-    print(report, what)
-}
+impl Tally {
+    // Before the first line.
+    pub(crate) const NOTHING: Tally = Tally {
+        plain: Counts::NONE,
+        full: Counts::NONE,
+        other: 0,
+    };
 
-// The line of a kind: how many walks were made over its blocks, how many of them gave the answer's text, and how many of those ended with a
-// refusal.
-fn print_counts<W: Write>(report: &mut W, name: &[u8], c: Counts) -> io::Result<()> {
-    let agreed = c.ended.wrapping_add(c.stopped);
-    print(report, name)?;
-    print_count(report, agreed.wrapping_add(c.different), b" asked, ")?;
-    print_count(report, agreed, b" agreed, ")?;
-    print_count(report, c.stopped, b" refused\n")
-}
+    // A line of a kind more.
+    pub(crate) fn count(&mut self, kind: Kind, outcome: Outcome) {
+        match kind {
+            Kind::Plain => self.plain.count(outcome),
+            Kind::Full => self.full.count(outcome),
+        }
+    }
 
-// A line for each kind of walk, and the totals.
-pub(crate) fn print_tally<W: Write>(report: &mut W, t: Tally) -> io::Result<()> {
-    let all = sum(t.plain, t.full);
-    print_counts(report, b"plain: ", t.plain)?;
-    print_counts(report, b"full: ", t.full)?;
-    print_counts(report, b"all: ", all)?;
-    print_count(report, all.different, b" different, ")?;
-    print_count(report, all.unread, b" not read, ")?;
-    print_count(report, t.other, b" of other kinds not asked\n")
+    // A line that asks for no walk.
+    pub(crate) fn count_other(&mut self) {
+        self.other = more(self.other);
+    }
+
+    // A line for each kind of walk, and the totals.
+    pub(crate) fn print<W: Write>(&self, report: &mut W) -> io::Result<()> {
+        let all = self.plain.plus(self.full);
+        writeln!(report, "plain: {}", self.plain)?;
+        writeln!(report, "full: {}", self.full)?;
+        writeln!(report, "all: {all}")?;
+        writeln!(
+            report,
+            "{} different, {} not read, {} of other kinds not asked",
+            all.different, all.unread, self.other
+        )
+    }
 }

@@ -4,7 +4,7 @@ pub mod Compared
 pub mod Texts
 pub mod Stands
 pub mod InStep
-pub mod Turns
+pub mod Streams
 pub mod Tags
 pub mod Members
 pub mod Heads

@@ -1,7 +1,7 @@
--- What a comparison says, what two steps come to, what is compared of tags, members and elements, and when two blocks list the same. Read
+-- What a comparison says, what a step of a stream says, what is compared of tags, members and elements, and when two blocks list the same. Read
 -- them in this order; worked values stand in proofs/.
 pub mod Compared
-pub mod Turns
+pub mod Streams
 pub mod Tags
 pub mod Members
 pub mod Heads

@@ -4,12 +4,9 @@ ghost use Rattle.elements.specs.Element.{item_of};
 ghost use Rattle.fields.specs.declared.part.Part.{Part as Range};
 ghost use Rattle.lookup.specs.Lookup.{is_record_inside};
 ghost use Rattle.walk.specs.Same.{same_item, same_element};
-ghost use Rattle.same.specs.Heads.{head_of, same_heads, found_by};
+ghost use Rattle.same.specs.Heads.{head_of, found_by};
 
-use crate::members::same_members;
-use crate::references::same_refs;
-use crate::tags::same_tags;
-use crate::values::same_i64;
+use crate::streams::same_streams;
 use elements::element::Element;
 use elements::members::RelMemberIter;
 use elements::references::WayRefIter;
@@ -17,11 +14,20 @@ use elements::tags::TagIter;
 use protobuf::refusal::Refusal;
 use wire::record::WireBlock;
 
-// What is known of an element without a reader: its group, a number for its kind, its id, and its raw position, 0 and 0 where it has none.
-#[derive(Clone, Copy)]
+// The kinds of elements.
+#[derive(Clone, Copy, PartialEq)]
+enum Kind {
+    DenseNode,
+    Node,
+    Way,
+    Relation,
+}
+
+// What is known of an element without a reader: its group, its kind, its id, and its raw position, 0 and 0 where it has none.
+#[derive(Clone, Copy, PartialEq)]
 struct Head {
     group: usize,
-    kind: u32,
+    kind: Kind,
     id: i64,
     lat: i64,
     lon: i64,
@@ -33,52 +39,33 @@ fn head_of(group: usize, element: Element) -> Head
     match element {
         Element::DenseNode(d) => Head {
             group,
-            kind: 0,
+            kind: Kind::DenseNode,
             id: d.id,
             lat: d.lat,
             lon: d.lon,
         },
         Element::Node(v) => Head {
             group,
-            kind: 1,
+            kind: Kind::Node,
             id: v.id,
             lat: v.lat,
             lon: v.lon,
         },
         Element::Way(v) => Head {
             group,
-            kind: 2,
+            kind: Kind::Way,
             id: v.id,
             lat: 0,
             lon: 0,
         },
         Element::Relation(v) => Head {
             group,
-            kind: 3,
+            kind: Kind::Relation,
             id: v.id,
             lat: 0,
             lon: 0,
         },
     }
-}
-
-// Whether two elements have the same group, kind, id and raw position.
-fn same_head(x: Head, y: Head) -> bool
-    ensures { result ≡ same_heads x y }
-{
-    if x.group != y.group {
-        return false;
-    }
-    if x.kind != y.kind {
-        return false;
-    }
-    if !same_i64(x.id, y.id) {
-        return false;
-    }
-    if !same_i64(x.lat, y.lat) {
-        return false;
-    }
-    same_i64(x.lon, y.lon)
 }
 
 // The tags of two elements, their references and their members, where the records are inside.
@@ -93,15 +80,15 @@ fn same_item(
     requires { (is_record_inside first.now a ≡ true) × (is_record_inside second.now b ≡ true) }
     ensures { result ≡ same_item first.now a second.now b (item_of first.now e) (item_of second.now f) }
 {
-    let tags = same_tags(first, a, TagIter::new(e), second, b, TagIter::new(f))?;
+    let tags = same_streams(first, a, TagIter::new(e), second, b, TagIter::new(f))?;
     if !tags {
         return Ok(false);
     }
-    let references = same_refs(first, WayRefIter::new(e), second, WayRefIter::new(f))?;
+    let references = same_streams(first, a, WayRefIter::new(e), second, b, WayRefIter::new(f))?;
     if !references {
         return Ok(false);
     }
-    same_members(
+    same_streams(
         first,
         a,
         RelMemberIter::new(e),
@@ -125,7 +112,7 @@ pub(crate) fn same_element(
     requires { (is_record_inside first.now a ≡ true) × (is_record_inside second.now b ≡ true) }
     ensures { (m n : Range) → result ≡ same_element first.now a second.now b (found_by first.now group m e) (found_by second.now other n f) }
 {
-    if !same_head(head_of(group, e), head_of(other, f)) {
+    if head_of(group, e) != head_of(other, f) {
         return Ok(false);
     }
     same_item(first, a, e, second, b, f)

@@ -7,7 +7,7 @@ ghost use Rattle.same.specs.Listing.{both_checked, same_listing};
 
 use crate::walks::same_walks;
 use accept::check::check;
-use protobuf::refusal::{Refusal, number};
+use protobuf::refusal::Refusal;
 use wire::record::WireBlock;
 
 // What two checks come to: 14 of either, then the first's number, then the second's.
@@ -20,11 +20,7 @@ fn both_checked(x: Result<(), Refusal>, y: Result<(), Refusal>) -> Result<(), Re
     let Err(n) = y else {
         return x;
     };
-    if number(n) == number(Refusal::Outside) {
-        y
-    } else {
-        x
-    }
+    if n == Refusal::Outside { y } else { x }
 }
 
 // Whether two scanned blocks list the same: 14 where either record, a table or a group's entry is outside its buffer; then the first's number

@@ -1,88 +1,80 @@
 // The plain walks of two blocks in step.
-ghost use Rattle.std.specs.Prelude.{◌≡◌, false};
-ghost use Rattle.walk.specs.Walk.{elements_from, fresh};
-ghost use Rattle.walk.specs.Same.{same_element, same_stream, same_walks};
-ghost use Rattle.same.specs.Walks.{element_turn, same_said, SaidInside};
+ghost use Rattle.std.specs.Prelude.{◌≡◌, true};
+ghost use Rattle.lookup.specs.Lookup.{is_record_inside};
+ghost use Rattle.walk.specs.Walk.{Found, elements_from};
+ghost use Rattle.walk.specs.Same.{same_element, same_walks};
+ghost use Rattle.same.specs.Heads.{found_by};
+ghost use Rattle.same.specs.Walks.{placed_said};
 
 use crate::items::same_element;
 use crate::records::same_record;
-use crate::turns::{Turn, ends};
+use crate::streams::{Stream, same_streams};
+use elements::element::Element;
+use fields::part::Part;
+use fields::step::Step;
 use protobuf::refusal::Refusal;
 use walk::block_elements::Said;
 use walk::state::BlockElementsIter;
 use wire::record::WireBlock;
 
-// What was said, without the element.
-fn turn(said: Said) -> Turn
-    ensures { result ≡ element_turn said }
+// An element with its group's number and its message's part.
+#[derive(Clone, Copy)]
+pub(crate) struct Placed {
+    group: usize,
+    message: Part,
+    element: Element,
+}
+
+// What was said, as any stream says it.
+fn said_of(said: Said) -> Result<Option<Placed>, Refusal>
+    ensures { result ≡ placed_said said }
 {
     match said {
         Said::Element {
-            group: _,
-            message: _,
-            element: _,
-        } => Turn::Hands,
-        Said::Ended => Turn::Ended,
-        Said::Refused(n) => Turn::Refused(n),
+            group,
+            message,
+            element,
+        } => Ok(Some(Placed {
+            group,
+            message,
+            element,
+        })),
+        Said::Ended => Ok(None),
+        Said::Refused(refusal) => Err(refusal),
     }
 }
 
-// What two steps say, as if both walks ended behind it. It is apart from the loop so that its proof carries no states.
-fn same_said(
-    first: &[u8],
-    a: WireBlock,
-    x: Said,
-    second: &[u8],
-    b: WireBlock,
-    y: Said,
-) -> Result<bool, Refusal>
-    requires { SaidInside first.now a x × SaidInside second.now b y }
-    ensures { result ≡ same_said (same_element first.now a second.now b) first.now x second.now y }
-{
-    let Said::Element {
-        group,
-        message: _,
-        element,
-    } = x
-    else {
-        return ends(turn(x), turn(y));
-    };
-    let Said::Element {
-        group: number,
-        message: _,
-        element: other,
-    } = y
-    else {
-        return ends(Turn::Hands, turn(y));
-    };
-    same_element(first, a, group, element, second, b, number, other)
-}
+// The elements of a walk are handed out where the record is inside.
+impl Stream for BlockElementsIter {
+    type Item = Placed;
 
-// The elements of two plain walks, one by one. The first's number, then the second's, where a step or an element meets one.
-fn same_elements(first: &[u8], a: WireBlock, second: &[u8], b: WireBlock) -> Result<bool, Refusal>
-    ensures { result ≡ same_stream (same_element first.now a second.now b) (elements_from first.now a (fresh false)) (elements_from second.now b (fresh false)) }
-{
-    let mut here = BlockElementsIter::new_skip_metadata();
-    let mut there = BlockElementsIter::new_skip_metadata();
-    loop {
-        let p = here.step(first, a);
-        let q = there.step(second, b);
-        let x = p.said;
-        let y = q.said;
-        let same = same_said(first, a, x, second, b, y)?;
-        if !same {
-            return Ok(false);
+    ghost Shown = { Found };
+
+    ghost shown = { λ s e. found_by s e.group e.message e.element };
+
+    ghost from = { elements_from };
+
+    ghost same = { same_element };
+
+    ghost stands = { λ s r e. is_record_inside s r ≡ true };
+
+    fn step(self, buffer: &[u8], block: WireBlock) -> Step<Placed, BlockElementsIter> {
+        let step = self.step(buffer, block);
+        Step {
+            said: said_of(step.said),
+            next: step.next,
         }
-        let Said::Element {
-            group: _,
-            message: _,
-            element: _,
-        } = x
-        else {
-            return Ok(true);
-        };
-        here = p.next;
-        there = q.next;
+    }
+
+    fn same(
+        first: &[u8],
+        a: WireBlock,
+        x: Placed,
+        second: &[u8],
+        b: WireBlock,
+        y: Placed,
+    ) -> Result<bool, Refusal> {
+        same_element(first, a, x.group, x.element, second, b, y.group, y.element)
     }
 }
 
@@ -98,5 +90,7 @@ pub(crate) fn same_walks(
     if !same_record(a, b) {
         return Ok(false);
     }
-    same_elements(first, a, second, b)
+    let here = BlockElementsIter::new_skip_metadata();
+    let there = BlockElementsIter::new_skip_metadata();
+    same_streams(first, a, here, second, b, there)
 }

@@ -9,7 +9,7 @@ ghost use Rattle.protobuf.specs.Column.{step_at};
 ghost use Rattle.protobuf.specs.Short.{Short};
 ghost use Rattle.answers.specs.Words.{filled, signed_word};
 ghost use Rattle.calls.specs.Calls.{one_room};
-ghost use Rattle.calls.specs.Filling.{ServedBy};
+ghost use Rattle.calls.specs.Items.{ServedBy};
 ghost use Rattle.walk.specs.declared.state.BlockElementsIter.TheVariants as iter;
 ghost use Rattle.walk_slots.specs.Slot.{walk_words, nodes_at, walk_at};
 ghost use Rattle.walk_calls.specs.Steps.{found_by, put_words, walk_in, walk_call};
@@ -20,8 +20,8 @@ use answers::words::put_numbers;
 use fields::part::part_fits;
 use kinds::dense_nodes::has_no_pairs;
 use lookup::by_number::is_inside;
-use numbers::little::read_u64;
-use numbers::signed::{bits_i64, int64, wrapping_add_i64, zigzag_i64};
+use numbers::little::Little;
+use numbers::signed::Signed;
 use protobuf::column::{Column, short_value};
 
 // Whether a slot holds plain dense nodes.
@@ -31,10 +31,10 @@ fn holds_nodes(slot: &[u8]) -> bool
     if slot.len() < 272 {
         return false;
     }
-    if read_u64(slot, 0) != 2 {
+    if u64::read(slot, 0) != 2 {
         return false;
     }
-    read_u64(slot, 8) == 0
+    u64::read(slot, 8) == 0
 }
 
 // Whether the record and the nodes' group and message are inside. That their columns are, each value's word tells.
@@ -48,20 +48,20 @@ fn is_place_inside(buffer: &[u8], rec: &[u8], slot: &[u8]) -> bool
     if !is_inside(buffer, block) {
         return false;
     }
-    if block.groups <= read_u64(slot, 16) as usize {
+    if block.groups <= u64::read(slot, 16) as usize {
         return false;
     }
     if !part_fits(
         buffer.len(),
-        read_u64(slot, 24) as usize,
-        read_u64(slot, 32) as usize,
+        u64::read(slot, 24) as usize,
+        u64::read(slot, 32) as usize,
     ) {
         return false;
     }
     part_fits(
         buffer.len(),
-        read_u64(slot, 40) as usize,
-        read_u64(slot, 48) as usize,
+        u64::read(slot, 40) as usize,
+        u64::read(slot, 48) as usize,
     )
 }
 
@@ -72,8 +72,8 @@ fn word_at(buffer: &[u8], slot: &[u8], at: usize) -> u64
 {
     short_value(
         buffer,
-        read_u64(slot, at) as usize,
-        read_u64(slot, at + 8) as usize,
+        u64::read(slot, at) as usize,
+        u64::read(slot, at + 8) as usize,
     )
 }
 
@@ -82,8 +82,8 @@ fn sum_behind(slot: &[u8], at: usize, word: u64) -> u64
     ensures bits { result ≡ signed_word (wrapping_add 64 (twos 64 (number_at 8 slot.now at)) (zigzag 64 (word / 16))) }
     ensures held { mag (wrapping_add 64 (twos 64 (number_at 8 slot.now at)) (zigzag 64 (word / 16))) < 2 ^ 63 }
 {
-    let before = int64(read_u64(slot, at));
-    bits_i64(wrapping_add_i64(before, zigzag_i64(word / 16)))
+    let before = i64::of_bits(u64::read(slot, at));
+    before.plus(i64::of_zigzag(word / 16)).bits()
 }
 
 // Puts the node that has these sums.
@@ -94,14 +94,14 @@ fn put_node(slot: &[u8], out: &mut [u8], id: u64, lat: u64, lon: u64)
         out,
         &[
             0,
-            read_u64(slot, 16),
-            read_u64(slot, 40),
-            read_u64(slot, 48),
+            u64::read(slot, 16),
+            u64::read(slot, 40),
+            u64::read(slot, 48),
             id,
             lat,
             lon,
-            read_u64(slot, 128),
-            read_u64(slot, 136),
+            u64::read(slot, 128),
+            u64::read(slot, 136),
             0,
         ],
     );
@@ -118,22 +118,22 @@ fn put_behind(slot: &mut [u8], id: u64, lat: u64, lon: u64, ids: u64, lats: u64,
         &[
             2,
             0,
-            read_u64(slot, 16),
-            read_u64(slot, 24),
-            read_u64(slot, 32),
-            read_u64(slot, 40),
-            read_u64(slot, 48),
-            read_u64(slot, 56) + id % 16,
-            read_u64(slot, 64),
+            u64::read(slot, 16),
+            u64::read(slot, 24),
+            u64::read(slot, 32),
+            u64::read(slot, 40),
+            u64::read(slot, 48),
+            u64::read(slot, 56) + id % 16,
+            u64::read(slot, 64),
             ids,
-            read_u64(slot, 80) + lat % 16,
-            read_u64(slot, 88),
+            u64::read(slot, 80) + lat % 16,
+            u64::read(slot, 88),
             lats,
-            read_u64(slot, 104) + lon % 16,
-            read_u64(slot, 112),
+            u64::read(slot, 104) + lon % 16,
+            u64::read(slot, 112),
             lons,
-            read_u64(slot, 128) + 1,
-            read_u64(slot, 136),
+            u64::read(slot, 128) + 1,
+            u64::read(slot, 136),
         ],
     );
 }
@@ -141,7 +141,7 @@ fn put_behind(slot: &mut [u8], id: u64, lat: u64, lon: u64, ids: u64, lats: u64,
 // The next element where it is a plain dense node of short values and no pairs: it is put, and the slot holds the state behind it. Else nothing
 // is written, and the call is made by `next_step`.
 pub fn short_step(buffer: &[u8], rec: &[u8], slot: &mut [u8], out: &mut [u8]) -> bool
-    ensures { ServedBy (found_by buffer.now) put_words (walk_in buffer.now rec.now) 208 iter.Ended out.old walk_at walk_words slot.old (walk_call buffer.now rec.now slot.old (one_room 208 out.old)) result slot.new out.new }
+    ensures { ServedBy (found_by buffer.now) put_words (walk_in buffer.now rec.now) 208 walk_at walk_words iter.Ended (walk_call buffer.now rec.now slot.old (one_room 208 out.old)) slot.old out.old result slot.new out.new }
 {
     if !holds_nodes(slot) {
         return false;
@@ -165,8 +165,8 @@ pub fn short_step(buffer: &[u8], rec: &[u8], slot: &mut [u8], out: &mut [u8]) ->
         return false;
     }
     let keyvals = Column {
-        at: read_u64(slot, 128) as usize,
-        end: read_u64(slot, 136) as usize,
+        at: u64::read(slot, 128) as usize,
+        end: u64::read(slot, 136) as usize,
     };
     if !has_no_pairs(buffer, keyvals) {
         return false;

@@ -1,7 +1,7 @@
 -- Where an element's references, tags and members start, by its 208 bytes as `layouts` puts them: its kind is the first number, and each
 -- part is three. A slice that is too short, another kind, and a part that is neither present nor absent are 14; an element without such
 -- things starts at the ended state.
-use Rattle.std.specs.Prelude.{ℕ, ◌+◌, ◌≡◌, List, length, leb, eqb, pos, Ok, Err}
+use Rattle.std.specs.Prelude.{ℕ, ◌+◌, ◌*◌, ◌≡◌, refl, List, length, leb, eqb, pos, Ok, Err}
 use Rattle.numbers.specs.Choose.{choose}
 use Rattle.numbers.specs.Little.{number_at}
 use Rattle.protobuf.specs.declared.refusal.Refusal.TheVariants.{Outside}
@@ -15,11 +15,19 @@ use Rattle.elements.specs.declared.tags.TagIter.TheVariants as tags
 use Rattle.elements.specs.declared.members.RelMemberIter.{RelMemberIter}
 use Rattle.elements.specs.declared.members.RelMemberIter.TheVariants as members
 use Rattle.elements.specs.Tags.{keys_and_vals}
-use Rattle.answers.specs.Codes.{code_of}
 use Rattle.calls.specs.Slots.{column_at}
+use Rattle.calls.specs.References.{ref_words}
+use Rattle.tag_calls.specs.Tags.{tag_words}
+use Rattle.member_calls.specs.Members.{member_words}
+use Rattle.start_calls.specs.declared.kind.ElementKind.{ElementKind}
+use Rattle.start_calls.specs.Kind.{kind_of}
 
 abbrev pub kind_at : List ℕ → ℕ
 kind_at s = number_at 8 s 0
+
+-- the kind of an element of 208 bytes
+abbrev pub kind_in : List ℕ → Outcome ElementKind
+kind_in s = choose (leb 208 (length s)) (kind_of (kind_at s)) (Err Outside)
 
 abbrev pub part_at : List ℕ → ℕ → Part
 part_at s at = record { present = eqb (number_at 8 s at) 1; start = number_at 8 s (at + 8); len = number_at 8 s (at + 16) }
@@ -73,6 +81,17 @@ abbrev pub started_by : {W : Type 0} → W → Outcome W → W
 started_by over (Ok w) = w
 started_by over (Err r) = over
 
-pub record Started {W : Type 0} (over : W) (start : Outcome W) (code : ℕ) (state : W) : Type 0 where
-  pub tells-code : code ≡ code_of start
-  pub stands : state ≡ started_by over start
+-- ---- the slot: each state of a sub-walk takes all of it
+
+pub refs_width : (w : WayRefIter) → 8 * length (ref_words w) ≡ 32
+refs_width refs.Ended = refl
+refs_width (refs.Refs c) = refl
+
+pub tags_width : (w : TagIter) → 8 * length (tag_words w) ≡ 40
+tags_width tags.Ended = refl
+tags_width (tags.Columns c) = refl
+tags_width (tags.KeysVals c) = refl
+
+pub members_width : (w : RelMemberIter) → 8 * length (member_words w) ≡ 64
+members_width members.Ended = refl
+members_width (members.Members c) = refl

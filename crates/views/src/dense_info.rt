@@ -27,15 +27,15 @@ impl View for WireDenseInfo {
     ghost at = { dense_info_at };
 
     #[tactic(auto, unfolding(fields::specs::Slot::rule_for))]
-    fn rule(tag: u32) -> Rule {
+    fn rule(tag: u32) -> Option<Rule> {
         match tag {
-            dense_info::VERSION | dense_info::VERSION_ONE => Rule::Column(1),
-            dense_info::TIMESTAMP | dense_info::TIMESTAMP_ONE => Rule::Column(2),
-            dense_info::CHANGESET | dense_info::CHANGESET_ONE => Rule::Column(3),
-            dense_info::UID | dense_info::UID_ONE => Rule::Column(4),
-            dense_info::USER_SID | dense_info::USER_SID_ONE => Rule::Column(5),
-            dense_info::VISIBLE | dense_info::VISIBLE_ONE => Rule::Column(6),
-            _ => Rule::Pass,
+            dense_info::VERSION | dense_info::VERSION_ONE => Some(Rule::Column(1)),
+            dense_info::TIMESTAMP | dense_info::TIMESTAMP_ONE => Some(Rule::Column(2)),
+            dense_info::CHANGESET | dense_info::CHANGESET_ONE => Some(Rule::Column(3)),
+            dense_info::UID | dense_info::UID_ONE => Some(Rule::Column(4)),
+            dense_info::USER_SID | dense_info::USER_SID_ONE => Some(Rule::Column(5)),
+            dense_info::VISIBLE | dense_info::VISIBLE_ONE => Some(Rule::Column(6)),
+            _ => None,
         }
     }
 

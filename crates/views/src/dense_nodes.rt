@@ -26,14 +26,14 @@ impl View for WireDenseNodes {
     ghost at = { dense_nodes_at };
 
     #[tactic(auto, unfolding(fields::specs::Slot::rule_for))]
-    fn rule(tag: u32) -> Rule {
+    fn rule(tag: u32) -> Option<Rule> {
         match tag {
-            dense_nodes::ID | dense_nodes::ID_ONE => Rule::Column(1),
-            dense_nodes::INFO => Rule::Message(5),
-            dense_nodes::LAT | dense_nodes::LAT_ONE => Rule::Column(8),
-            dense_nodes::LON | dense_nodes::LON_ONE => Rule::Column(9),
-            dense_nodes::KEYS_VALS | dense_nodes::KEYS_VALS_ONE => Rule::Column(10),
-            _ => Rule::Pass,
+            dense_nodes::ID | dense_nodes::ID_ONE => Some(Rule::Column(1)),
+            dense_nodes::INFO => Some(Rule::Message(5)),
+            dense_nodes::LAT | dense_nodes::LAT_ONE => Some(Rule::Column(8)),
+            dense_nodes::LON | dense_nodes::LON_ONE => Some(Rule::Column(9)),
+            dense_nodes::KEYS_VALS | dense_nodes::KEYS_VALS_ONE => Some(Rule::Column(10)),
+            _ => None,
         }
     }
 

@@ -8,7 +8,7 @@ ghost use Rattle.views.specs.Info.{number_of, bool_of, info_of, info-moved};
 use crate::view::{PLACES, View};
 use fields::schema::info;
 use fields::slot::{Rule, Slot};
-use numbers::signed::{int32, int64};
+use numbers::signed::Signed;
 
 // Each where it was read; `user` is user_sid.
 #[derive(Clone, Copy)]
@@ -29,12 +29,13 @@ fn number_in(slots: &[Slot; PLACES], k: usize) -> Option<u64>
     slots[k].part.present.then_some(slots[k].value)
 }
 
-// By its lowest 32 bits, with their sign.
+// By its lowest 32 bits, with their sign. Two functions: one over the type would hand `T::of_bits` to `map`, which the borrow checker does not
+// cover.
 fn int32_in(slots: &[Slot; PLACES], k: usize) -> Option<i32>
     requires { k < 11 }
     ensures { result ≡ number_of (twos 32) (slot_at slots.now k) }
 {
-    number_in(slots, k).map(int32)
+    number_in(slots, k).map(i32::of_bits)
 }
 
 // By all 64 bits.
@@ -42,7 +43,7 @@ fn int64_in(slots: &[Slot; PLACES], k: usize) -> Option<i64>
     requires { k < 11 }
     ensures { result ≡ number_of (twos 64) (slot_at slots.now k) }
 {
-    number_in(slots, k).map(int64)
+    number_in(slots, k).map(i64::of_bits)
 }
 
 // True unless 0.
@@ -61,15 +62,15 @@ impl View for WireInfo {
     ghost at = { λ base slots. info_of slots };
 
     #[tactic(auto, unfolding(fields::specs::Slot::rule_for))]
-    fn rule(tag: u32) -> Rule {
+    fn rule(tag: u32) -> Option<Rule> {
         match tag {
-            info::VERSION => Rule::Scalar(1),
-            info::TIMESTAMP => Rule::Scalar(2),
-            info::CHANGESET => Rule::Scalar(3),
-            info::UID => Rule::Scalar(4),
-            info::USER_SID => Rule::Scalar(5),
-            info::VISIBLE => Rule::Scalar(6),
-            _ => Rule::Pass,
+            info::VERSION => Some(Rule::Scalar(1)),
+            info::TIMESTAMP => Some(Rule::Scalar(2)),
+            info::CHANGESET => Some(Rule::Scalar(3)),
+            info::UID => Some(Rule::Scalar(4)),
+            info::USER_SID => Some(Rule::Scalar(5)),
+            info::VISIBLE => Some(Rule::Scalar(6)),
+            _ => None,
         }
     }
 

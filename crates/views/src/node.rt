@@ -7,7 +7,7 @@ use crate::view::{PLACES, View, part_in};
 use fields::part::Part;
 use fields::schema::node;
 use fields::slot::{Rule, Slot};
-use numbers::signed::zigzag_i64;
+use numbers::signed::Signed;
 
 #[derive(Clone, Copy)]
 pub struct WireNode {
@@ -27,23 +27,23 @@ impl View for WireNode {
     ghost at = { node_at };
 
     #[tactic(auto, unfolding(fields::specs::Slot::rule_for))]
-    fn rule(tag: u32) -> Rule {
+    fn rule(tag: u32) -> Option<Rule> {
         match tag {
-            node::ID => Rule::Scalar(1),
-            node::KEYS | node::KEYS_ONE => Rule::Column(2),
-            node::VALS | node::VALS_ONE => Rule::Column(3),
-            node::INFO => Rule::Message(4),
-            node::LAT => Rule::Scalar(8),
-            node::LON => Rule::Scalar(9),
-            _ => Rule::Pass,
+            node::ID => Some(Rule::Scalar(1)),
+            node::KEYS | node::KEYS_ONE => Some(Rule::Column(2)),
+            node::VALS | node::VALS_ONE => Some(Rule::Column(3)),
+            node::INFO => Some(Rule::Message(4)),
+            node::LAT => Some(Rule::Scalar(8)),
+            node::LON => Some(Rule::Scalar(9)),
+            _ => None,
         }
     }
 
     fn of(slots: &[Slot; PLACES]) -> WireNode {
         WireNode {
-            id: zigzag_i64(slots[1].value),
-            lat: zigzag_i64(slots[8].value),
-            lon: zigzag_i64(slots[9].value),
+            id: i64::of_zigzag(slots[1].value),
+            lat: i64::of_zigzag(slots[8].value),
+            lon: i64::of_zigzag(slots[9].value),
             keys: part_in(slots, 2),
             vals: part_in(slots, 3),
             info: part_in(slots, 4),

@@ -7,7 +7,7 @@ use crate::view::{PLACES, View, part_in};
 use fields::part::Part;
 use fields::schema::relation;
 use fields::slot::{Rule, Slot};
-use numbers::signed::int64;
+use numbers::signed::Signed;
 
 #[derive(Clone, Copy)]
 pub struct WireRelation {
@@ -28,22 +28,22 @@ impl View for WireRelation {
     ghost at = { relation_at };
 
     #[tactic(auto, unfolding(fields::specs::Slot::rule_for))]
-    fn rule(tag: u32) -> Rule {
+    fn rule(tag: u32) -> Option<Rule> {
         match tag {
-            relation::ID => Rule::Scalar(1),
-            relation::KEYS | relation::KEYS_ONE => Rule::Column(2),
-            relation::VALS | relation::VALS_ONE => Rule::Column(3),
-            relation::INFO => Rule::Message(4),
-            relation::ROLES | relation::ROLES_ONE => Rule::Column(8),
-            relation::MEMIDS | relation::MEMIDS_ONE => Rule::Column(9),
-            relation::TYPES | relation::TYPES_ONE => Rule::Column(10),
-            _ => Rule::Pass,
+            relation::ID => Some(Rule::Scalar(1)),
+            relation::KEYS | relation::KEYS_ONE => Some(Rule::Column(2)),
+            relation::VALS | relation::VALS_ONE => Some(Rule::Column(3)),
+            relation::INFO => Some(Rule::Message(4)),
+            relation::ROLES | relation::ROLES_ONE => Some(Rule::Column(8)),
+            relation::MEMIDS | relation::MEMIDS_ONE => Some(Rule::Column(9)),
+            relation::TYPES | relation::TYPES_ONE => Some(Rule::Column(10)),
+            _ => None,
         }
     }
 
     fn of(slots: &[Slot; PLACES]) -> WireRelation {
         WireRelation {
-            id: int64(slots[1].value),
+            id: i64::of_bits(slots[1].value),
             keys: part_in(slots, 2),
             vals: part_in(slots, 3),
             info: part_in(slots, 4),

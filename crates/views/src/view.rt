@@ -9,8 +9,9 @@ ghost use Rattle.fields.specs.Slot.{rule_by, rule_for};
 ghost use Rattle.views.specs.Slots.{has_room, empty_slot, slot_at, slots_of};
 
 use fields::part::{NONE, Part, part_fits};
-use fields::slot::{Rule, Slot, place, put_slot};
+use fields::slot::{Rule, Slot, put_slot};
 use message::field::next_field;
+use message::payload::Payload;
 use protobuf::refusal::Refusal;
 
 // How many slots suffice for every message.
@@ -35,7 +36,7 @@ pub trait View {
     ghost at: { ℕ → Slots → Self };
 
     // What the view makes of a field, by its number with its wire type; any other pair is passed over.
-    fn rule(tag: u32) -> Rule
+    fn rule(tag: u32) -> Option<Rule>
         ensures { rule_by result ≡ rule_for schema (split tag) };
 
     // The slots by name and type.
@@ -109,16 +110,16 @@ fn fill<V: View>(s: &[u8], base: usize, slots: &mut [Slot; PLACES]) -> Result<()
 {
     let mut at = 0;
     while let Some((field, next)) = next_field(s, at)? {
-        let r = V::rule(field.tag);
-        let k = place(r);
-        let x = put_slot(
-            r,
-            slot_in(slots, k),
-            field.value,
-            base + field.start,
-            field.len,
-        )?;
-        store(slots, k, x);
+        if let Some(rule) = V::rule(field.tag) {
+            let k = rule.place();
+            let raw = Payload {
+                value: field.value,
+                start: base + field.start,
+                len: field.len,
+            };
+            let x = put_slot(rule, slot_in(slots, k), raw)?;
+            store(slots, k, x);
+        }
         at = next;
     }
     Ok(())

@@ -7,7 +7,7 @@ use crate::view::{PLACE_20, PLACES, View, part_in};
 use fields::part::Part;
 use fields::schema::way;
 use fields::slot::{Rule, Slot};
-use numbers::signed::int64;
+use numbers::signed::Signed;
 
 #[derive(Clone, Copy)]
 pub struct WireWay {
@@ -29,23 +29,23 @@ impl View for WireWay {
     ghost at = { way_at };
 
     #[tactic(auto, unfolding(fields::specs::Slot::rule_for))]
-    fn rule(tag: u32) -> Rule {
+    fn rule(tag: u32) -> Option<Rule> {
         match tag {
-            way::ID => Rule::Scalar(1),
-            way::KEYS | way::KEYS_ONE => Rule::Column(2),
-            way::VALS | way::VALS_ONE => Rule::Column(3),
-            way::INFO => Rule::Message(4),
-            way::REFS | way::REFS_ONE => Rule::Column(8),
-            way::LAT | way::LAT_ONE => Rule::Column(9),
-            way::LON | way::LON_ONE => Rule::Column(10),
-            way::PINS => Rule::Bytes(PLACE_20),
-            _ => Rule::Pass,
+            way::ID => Some(Rule::Scalar(1)),
+            way::KEYS | way::KEYS_ONE => Some(Rule::Column(2)),
+            way::VALS | way::VALS_ONE => Some(Rule::Column(3)),
+            way::INFO => Some(Rule::Message(4)),
+            way::REFS | way::REFS_ONE => Some(Rule::Column(8)),
+            way::LAT | way::LAT_ONE => Some(Rule::Column(9)),
+            way::LON | way::LON_ONE => Some(Rule::Column(10)),
+            way::PINS => Some(Rule::Bytes(PLACE_20)),
+            _ => None,
         }
     }
 
     fn of(slots: &[Slot; PLACES]) -> WireWay {
         WireWay {
-            id: int64(slots[1].value),
+            id: i64::of_bits(slots[1].value),
             keys: part_in(slots, 2),
             vals: part_in(slots, 3),
             info: part_in(slots, 4),

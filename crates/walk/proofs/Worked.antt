@@ -1,7 +1,7 @@
 -- Worked values: what a walk has ahead on concrete buffers, records and states, one row for each clause of document 01, sections 3 and 4, that
 -- the definitions carry. They are proved by computing, so a definition that is changed breaks the row of its clause, whatever the code does.
 -- Bytes are hexadecimal; `negsuc n` is −(n + 1).
-use Rattle.std.specs.Prelude.{ℕ, ◌≡◌, refl, List, [], ◌∷◌, ◌++◌, Bool, true, false, replicate, pos}
+use Rattle.std.specs.Prelude.{ℕ, ◌≡◌, refl, List, [], ◌∷◌, ◌++◌, Bool, true, false, replicate, pos, ℤ}
 use Rattle.std.proofs.Math.Option.{none, some}
 use Rattle.std.proofs.Common.{arith}
 use Rattle.numbers.specs.Little.{little, number_at}
@@ -25,7 +25,7 @@ use Rattle.wire.specs.declared.record.WireBlock.{WireBlock}
 use Rattle.lookup.specs.Lookup.{group_at}
 use Rattle.block.specs.Tags.{take_pairs}
 use Rattle.block.specs.Infos.{Info}
-use Rattle.columns.specs.declared.sums.Sum64.{Sum64}
+use Rattle.columns.specs.declared.sums.Sum.{Sum}
 use Rattle.columns.specs.InStep.{ahead, start_of}
 use Rattle.columns.specs.Zip.{zip}
 use Rattle.elements.specs.Tags.{pair_by, pairs_of}
@@ -151,7 +151,7 @@ range start len = record { start = start; len = len }
 abbrev column : ℕ → ℕ → State
 column at to = record { at = at; end = to }
 
-abbrev sum : State → Sum64
+abbrev sum : State → Sum ℤ
 sum c = record { column = c; sum = pos 0 }
 
 -- dense nodes of a group by its number and length, with columns that have ended

@@ -1,6 +1,6 @@
 -- What a walk has ahead (document 01, section 4), over any buffer, record and state: the elements up to its end or a number. Group by group:
 -- its entry in the table, the dense pass over all its fields, dense nodes, nodes, ways, relations. Plain or full is in the state.
-use Rattle.std.specs.Prelude.{ℕ, zero, suc, ◌-◌, List, Bool, true, false, pos, Ok, Err}
+use Rattle.std.specs.Prelude.{ℕ, zero, suc, ◌-◌, List, Bool, true, false, pos, Ok, Err, ℤ}
 use Rattle.protobuf.specs.declared.refusal.Refusal.TheVariants.{Outside}
 use Rattle.numbers.specs.Choose.{choose}
 use Rattle.protobuf.specs.Stream.{end, more, mapped}
@@ -18,8 +18,7 @@ use Rattle.groups.specs.Group.{dense_in}
 use Rattle.wire.specs.declared.record.WireBlock.{WireBlock}
 use Rattle.lookup.specs.Lookup.{group_at, is_record_inside}
 use Rattle.columns.specs.declared.info_rows.InfoColumns.{InfoColumns}
-use Rattle.columns.specs.declared.sums.Sum64.{Sum64}
-use Rattle.columns.specs.declared.sums.Sum32.{Sum32}
+use Rattle.columns.specs.declared.sums.Sum.{Sum}
 use Rattle.columns.specs.declared.zip.RowColumns.{RowColumns}
 use Rattle.columns.specs.InStep.{start_of}
 use Rattle.elements.specs.Element.{DenseItem, Item, dense_item, item_of}
@@ -101,10 +100,10 @@ from_full_dense s d =
 
 -- ---- into a group
 
-abbrev pub sum_of : Part → Sum64
+abbrev pub sum_of : Part → Sum ℤ
 sum_of p = record { column = start_of p; sum = pos 0 }
 
-abbrev pub sum32_of : Part → Sum32
+abbrev pub sum32_of : Part → Sum ℤ
 sum32_of p = record { column = start_of p; sum = pos 0 }
 
 abbrev pub rows_start : WireDenseNodes → RowColumns

@@ -1,8 +1,9 @@
 -- Demand 3: whole runs over two blocks. A run is the record that the scan gave of an accepted block, the plain walk at its start, and calls of
 -- `step` and `next` in any mix and number over the buffer as the scan left it. Every run hands out the block's listing, element by element,
 -- each with its tags, references and members by every run of their own; and the two listings are equal exactly when the contents are.
-use Rattle.std.specs.Prelude.{ℕ, ◌≡◌, List, false, ℤ, take, Ok, Option}
+use Rattle.std.specs.Prelude.{ℕ, ◌≡◌, List, false, ℤ, take, Ok, Err, Option, Some, None}
 use Rattle.fields.specs.declared.part.Part.{Part}
+use Rattle.fields.specs.declared.step.Step.{Step}
 use Rattle.fields.specs.Outcome.{Outcome}
 use Rattle.wire.specs.declared.record.WireBlock.{WireBlock}
 use Rattle.wire.specs.Scan.{Scanned-as}
@@ -13,17 +14,11 @@ use Rattle.elements.specs.declared.element.Element as handed
 use Rattle.elements.specs.declared.tags.TagIter.{TagIter}
 use Rattle.elements.specs.declared.tags.TagIter.TheVariants as tags
 use Rattle.elements.specs.declared.tags.Tag.{Tag}
-use Rattle.elements.specs.declared.tags.TagIterStep.{TagIterStep}
-use Rattle.elements.specs.declared.tags.TagIterStep.TheVariants as tag
 use Rattle.elements.specs.declared.references.WayRefIter.{WayRefIter}
 use Rattle.elements.specs.declared.references.WayRefIter.TheVariants as references
-use Rattle.elements.specs.declared.references.WayRefStep.{WayRefStep}
-use Rattle.elements.specs.declared.references.WayRefStep.TheVariants as reference
 use Rattle.elements.specs.declared.members.RelMember.{RelMember}
 use Rattle.elements.specs.declared.members.RelMemberIter.{RelMemberIter}
 use Rattle.elements.specs.declared.members.RelMemberIter.TheVariants as members
-use Rattle.elements.specs.declared.members.RelMemberStep.{RelMemberStep}
-use Rattle.elements.specs.declared.members.RelMemberStep.TheVariants as member
 use Rattle.elements.specs.Tags.{tags_from, tag_said, tag_behind, tags_start}
 use Rattle.elements.specs.References.{refs_from, ref_said, ref_behind, refs_start}
 use Rattle.elements.specs.Members.{members_from, member_said, member_behind, members_start, role_at}
@@ -54,15 +49,15 @@ pub data CallPost (s : List ℕ) (r : WireBlock) (w : BlockElementsIter) (a : El
   by_step : StepPost s r w a → CallPost s r w a
   by_next : NextPost s r w a → CallPost s r w a
 
-pub record TagPost (s : List ℕ) (r : WireBlock) (w : TagIter) (a : TagIterStep) : Type 0 where
+pub record TagPost (s : List ℕ) (r : WireBlock) (w : TagIter) (a : Step Tag TagIter) : Type 0 where
   pub says : tag_said s r a ≡ tags_from s r w
   pub behind : tag_behind a ≡ tags.Ended
 
-pub record RefPost (s : List ℕ) (w : WayRefIter) (a : WayRefStep) : Type 0 where
+pub record RefPost (s : List ℕ) (w : WayRefIter) (a : Step ℤ WayRefIter) : Type 0 where
   pub says : ref_said s a ≡ refs_from s w
   pub behind : ref_behind a ≡ references.Ended
 
-pub record MemberPost (s : List ℕ) (r : WireBlock) (w : RelMemberIter) (a : RelMemberStep) : Type 0 where
+pub record MemberPost (s : List ℕ) (r : WireBlock) (w : RelMemberIter) (a : Step RelMember RelMemberIter) : Type 0 where
   pub says : member_said s r a ≡ members_from s r w
   pub behind : member_behind a ≡ members.Ended
 
@@ -84,35 +79,34 @@ element_told a = said_told a.said
 abbrev pub after_step : ElementStep → BlockElementsIter
 after_step a = a.next
 
-abbrev pub tag_told : TagIterStep → Says Tag
-tag_told (tag.Tag t next) = gives t
-tag_told (tag.Ended next) = over
-tag_told (tag.Refused r next) = refuses r
+abbrev pub says_by : {T : Type 0} → Outcome (Option T) → Says T
+says_by (Ok (Some item)) = gives item
+says_by (Ok None) = over
+says_by (Err r) = refuses r
 
-abbrev pub after_tag : TagIterStep → TagIter
-after_tag (tag.Tag t next) = next
-after_tag (tag.Ended next) = next
-after_tag (tag.Refused r next) = next
+abbrev pub step_told : {T S : Type 0} → Step T S → Says T
+step_told a = says_by a.said
 
-abbrev pub ref_told : WayRefStep → Says ℤ
-ref_told (reference.Ref id next) = gives id
-ref_told (reference.Ended next) = over
-ref_told (reference.Refused r next) = refuses r
+abbrev pub after : {T S : Type 0} → Step T S → S
+after a = a.next
 
-abbrev pub after_ref : WayRefStep → WayRefIter
-after_ref (reference.Ref id next) = next
-after_ref (reference.Ended next) = next
-after_ref (reference.Refused r next) = next
+abbrev pub tag_told : Step Tag TagIter → Says Tag
+tag_told = step_told
 
-abbrev pub member_told : RelMemberStep → Says RelMember
-member_told (member.Member m next) = gives m
-member_told (member.Ended next) = over
-member_told (member.Refused r next) = refuses r
+abbrev pub after_tag : Step Tag TagIter → TagIter
+after_tag = after
 
-abbrev pub after_member : RelMemberStep → RelMemberIter
-after_member (member.Member m next) = next
-after_member (member.Ended next) = next
-after_member (member.Refused r next) = next
+abbrev pub ref_told : Step ℤ WayRefIter → Says ℤ
+ref_told = step_told
+
+abbrev pub after_ref : Step ℤ WayRefIter → WayRefIter
+after_ref = after
+
+abbrev pub member_told : Step RelMember RelMemberIter → Says RelMember
+member_told = step_told
+
+abbrev pub after_member : Step RelMember RelMemberIter → RelMemberIter
+after_member = after
 
 -- ---- one block
 
@@ -127,9 +121,9 @@ pub record ElementIs (s : List ℕ) (r : WireBlock) (h : Handed) (e : Element) :
   pub kind : kind_of (item_of s h.element) ≡ e.kind
   pub id : item_id (item_of s h.element) ≡ e.id
   pub position : position_of (item_of s h.element) ≡ e.position
-  pub tags : (w : TagIter) (answers : List TagIterStep) → w ≡ tags_start h.element → Run (TagPost s r) after_tag w answers → Hands tag_told (TagShows s) answers e.tags
-  pub references : (w : WayRefIter) (answers : List WayRefStep) → w ≡ refs_start h.element → Run (RefPost s) after_ref w answers → Hands ref_told ◌≡◌ answers e.references
-  pub members : (w : RelMemberIter) (answers : List RelMemberStep) → w ≡ members_start h.element → Run (MemberPost s r) after_member w answers → Hands member_told (MemberIs s r) answers e.members
+  pub tags : (w : TagIter) (answers : List (Step Tag TagIter)) → w ≡ tags_start h.element → Run (TagPost s r) after_tag w answers → Hands tag_told (TagShows s) answers e.tags
+  pub references : (w : WayRefIter) (answers : List (Step ℤ WayRefIter)) → w ≡ refs_start h.element → Run (RefPost s) after_ref w answers → Hands ref_told ◌≡◌ answers e.references
+  pub members : (w : RelMemberIter) (answers : List (Step RelMember RelMemberIter)) → w ≡ members_start h.element → Run (MemberPost s r) after_member w answers → Hands member_told (MemberIs s r) answers e.members
 
 -- the buffer and the record that a scan left of an accepted block
 pub record Accepted (s : List ℕ) (r : WireBlock) (b : List ℕ) (n : ℕ) : Type 0 where

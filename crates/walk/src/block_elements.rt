@@ -14,7 +14,7 @@ use crate::steps::{dense_element, part_of, walk_full_dense, walk_messages};
 use crate::turns::{Move, move_out, move_to};
 use elements::element::{Element, NodeInfo};
 use fields::part::Part;
-use kinds::dense_nodes::{DenseStep, next_dense};
+use kinds::dense_nodes::next_dense;
 use kinds::state::{DenseColumns, Loose};
 use lookup::by_number::is_inside;
 use protobuf::refusal::Refusal;
@@ -55,15 +55,13 @@ fn say_dense(nodes: DenseNodeIter, columns: DenseColumns) -> ElementStep
     ensures { result ≡ dense_said_by nodes columns }
 {
     let element = dense_element(columns.rows, nodes.columns.keyvals, NodeInfo::Unread);
-    let mut behind = nodes;
-    behind.columns = columns;
     ElementStep {
         said: Said::Element {
             group: nodes.of.group,
             message: part_of(nodes.message),
             element,
         },
-        next: BlockElementsIter::DenseNodes(behind),
+        next: BlockElementsIter::DenseNodes(DenseNodeIter { columns, ..nodes }),
     }
 }
 
@@ -91,11 +89,10 @@ fn advance(buffer: &[u8], block: WireBlock, mut state: BlockElementsIter) -> Ele
     loop {
         match state {
             BlockElementsIter::DenseNodes(nodes) => {
-                let d = next_dense(buffer, nodes.columns);
-                match d {
-                    DenseStep::Node(next) => return say_dense(nodes, next),
-                    DenseStep::Ended => state = messages_of(false, nodes.of, Loose::Nodes),
-                    DenseStep::Refused(n) => return refuse(n),
+                match next_dense(buffer, nodes.columns) {
+                    Ok(Some(next)) => return say_dense(nodes, next),
+                    Ok(None) => state = messages_of(false, nodes.of, Loose::Nodes),
+                    Err(refusal) => return refuse(refusal),
                 }
             }
             _ => {

@@ -8,7 +8,7 @@ use crate::state::{Between, BlockElementsIter, DenseNodeIter, FullDenseNodeIter,
 use crate::turns::{Move, move_out, move_refused, move_to};
 use columns::info_rows::InfoColumns;
 use columns::reader::start_column;
-use columns::sums::{start_sum32, start_sum64};
+use columns::sums::Sum;
 use columns::zip::RowColumns;
 use fields::part::Part;
 use groups::group::dense;
@@ -75,9 +75,9 @@ fn start_nodes(of: GroupRangeAt, message: Part, v: WireDenseNodes) -> DenseNodeI
         },
         columns: DenseColumns {
             rows: RowColumns {
-                ids: start_sum64(v.id),
-                lats: start_sum64(v.lat),
-                lons: start_sum64(v.lon),
+                ids: Sum::start(v.id),
+                lats: Sum::start(v.lat),
+                lons: Sum::start(v.lon),
             },
             keyvals: start_column(v.keyvals),
         },
@@ -90,10 +90,10 @@ fn start_infos(v: WireDenseInfo) -> InfoColumns
 {
     InfoColumns {
         version: start_column(v.version),
-        timestamp: start_sum64(v.timestamp),
-        changeset: start_sum64(v.changeset),
-        uid: start_sum32(v.uid),
-        user: start_sum32(v.user),
+        timestamp: Sum::start(v.timestamp),
+        changeset: Sum::start(v.changeset),
+        uid: Sum::start(v.uid),
+        user: Sum::start(v.user),
         visible: start_column(v.visible),
     }
 }

@@ -7,14 +7,14 @@ ghost use Rattle.walk.specs.Said.{dense_element};
 ghost use Rattle.walk.specs.Moves.{left, among_full, among_messages, full_said_by, message_said_by, Quietly};
 
 use crate::moves::{begin_kind, behind_kind};
-use crate::state::{BlockElementsIter, FullDenseNodeIter, Range};
+use crate::state::{BlockElementsIter, DenseNodeIter, FullDenseNodeIter, Range};
 use crate::turns::{Move, move_refused, move_to, move_with};
 use columns::info_rows::InfoColumns;
 use columns::zip::RowColumns;
 use elements::element::{DenseNode, Element, NodeInfo};
 use fields::part::Part;
-use kinds::dense_nodes::{FullDenseStep, next_full_dense};
-use kinds::messages::{LooseStep, next_loose};
+use kinds::dense_nodes::next_full_dense;
+use kinds::messages::next_loose;
 use kinds::state::{DenseColumns, Loose, Messages};
 use protobuf::column::Column;
 use wire::record::WireBlock;
@@ -47,8 +47,7 @@ pub(crate) fn dense_element(rows: RowColumns, tags: Column, info: NodeInfo) -> E
 fn say_full(d: FullDenseNodeIter, info: NodeInfo, columns: DenseColumns, infos: InfoColumns) -> Move
     ensures { result ≡ full_said_by d info columns infos }
 {
-    let mut nodes = d.nodes;
-    nodes.columns = columns;
+    let nodes = DenseNodeIter { columns, ..d.nodes };
     let next = BlockElementsIter::FullDenseNodes(FullDenseNodeIter { nodes, infos });
     let element = dense_element(columns.rows, d.nodes.columns.keyvals, info);
     move_with(d.nodes.of.group, part_of(d.nodes.message), element, next)
@@ -59,15 +58,10 @@ pub(crate) fn walk_full_dense(buffer: &[u8], block: WireBlock, d: FullDenseNodeI
     requires { (is_record_inside buffer.now block ≡ true) × (state_inside buffer.now block (among_full d) ≡ true) }
     ensures { Quietly buffer.now block (left block (among_full d)) (elements_by buffer.now block (among_full d)) result }
 {
-    let r = next_full_dense(buffer, d.nodes.columns, d.infos);
-    match r {
-        FullDenseStep::Refused(n) => return move_refused(n),
-        FullDenseStep::Ended => return begin_kind(true, d.nodes.of, Loose::Nodes),
-        FullDenseStep::Node {
-            info,
-            columns,
-            infos,
-        } => return say_full(d, info, columns, infos),
+    match next_full_dense(buffer, d.nodes.columns, d.infos) {
+        Err(refusal) => return move_refused(refusal),
+        Ok(None) => return begin_kind(true, d.nodes.of, Loose::Nodes),
+        Ok(Some((info, columns, infos))) => return say_full(d, info, columns, infos),
     }
 }
 
@@ -75,8 +69,7 @@ pub(crate) fn walk_full_dense(buffer: &[u8], block: WireBlock, d: FullDenseNodeI
 fn say_message(m: Messages, message: Part, element: Element, at: usize) -> Move
     ensures { result ≡ message_said_by m message element at }
 {
-    let mut next = m;
-    next.at = at;
+    let next = Messages { at, ..m };
     move_with(
         m.of.group,
         message,
@@ -90,17 +83,9 @@ pub(crate) fn walk_messages(buffer: &[u8], block: WireBlock, m: Messages) -> Mov
     requires { (is_record_inside buffer.now block ≡ true) × (state_inside buffer.now block (among_messages m) ≡ true) }
     ensures { Quietly buffer.now block (left block (among_messages m)) (elements_by buffer.now block (among_messages m)) result }
 {
-    let r = next_loose(buffer, m);
-    match r {
-        LooseStep::Refused(n) => return move_refused(n),
-        LooseStep::Ended => {
-            let kind = m.kind;
-            return move_to(behind_kind(m.full, m.of, kind));
-        }
-        LooseStep::Found {
-            message,
-            element,
-            at,
-        } => return say_message(m, message, element, at),
+    match next_loose(buffer, m) {
+        Err(refusal) => return move_refused(refusal),
+        Ok(None) => return move_to(behind_kind(m.full, m.of, m.kind)),
+        Ok(Some((message, element, at))) => return say_message(m, message, element, at),
     }
 }

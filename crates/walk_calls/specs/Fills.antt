@@ -1,5 +1,6 @@
 -- What the loops of a call of the walk promise to each other: the elements that a call hands out are put by several loops, one behind the other.
-use Rattle.std.specs.Prelude.{ℕ, ◌≡◌, List, Bool, true, false, Ok}
+use Rattle.std.specs.Prelude.{ℕ, ◌≡◌, List, Bool, true, false, Result, Ok}
+use Rattle.protobuf.specs.declared.refusal.Refusal.TheVariants.{Outside}
 use Rattle.protobuf.specs.declared.column.Column as state
 use Rattle.protobuf.specs.Column.{Column}
 use Rattle.fields.specs.declared.part.Part.{Part}
@@ -18,10 +19,12 @@ use Rattle.walk.specs.declared.state.BlockElementsIter.TheVariants as walk
 use Rattle.walk.specs.Said.{dense_element}
 use Rattle.walk.specs.State.{state_inside}
 use Rattle.walk.specs.Walk.{Found, part_of, elements_from}
+use Rattle.answers.specs.declared.codes.Stop.{Stop}
+use Rattle.answers.specs.declared.codes.Stop.TheVariants as stop
 use Rattle.answers.specs.Words.{filled, filled_at}
 use Rattle.layouts.specs.Element.{element_words}
-use Rattle.calls.specs.Calls.{answered}
-use Rattle.calls.specs.Filling.{FillingBy, FilledBy}
+use Rattle.calls.specs.declared.run.Run.{Run}
+use Rattle.calls.specs.Items.{state_left, count_of, Filling, FillsUp}
 use Rattle.walk_slots.specs.Slot.{walk_words, walk_at}
 use Rattle.walk_calls.specs.Steps.{Put, found_by, put_words, walk_over}
 
@@ -45,28 +48,24 @@ pub record MessagePut (s : List ℕ) (full : Bool) (kind : Loose) (group : ℕ) 
 module _ (s : List ℕ) (ahead : BlockElementsIter → Column Found) (most : ℕ) where
   -- n of the elements that w has ahead stand in `after`, from the start of `out` on, and next has the others ahead
   abbrev pub Fills : BlockElementsIter → List ℕ → ℕ → BlockElementsIter → List ℕ → Type 0
-  Fills w out n next after = FillingBy (found_by s) put_words ahead 208 (ahead w) out most n next after
+  Fills w out n next after = Filling (found_by s) put_words ahead 208 (ahead w) out most n next after
 
-  -- where n elements of a stream, whichever it is, stand in `out`, and w has the others ahead, the call's answer is that of the stream
-  pub record FillsUp (n : ℕ) (w : BlockElementsIter) (out : List ℕ) (code count : ℕ) (next : BlockElementsIter) (after : List ℕ) : Type 0 where
-    pub on : (c : Column Found) (begun : List ℕ) → FillingBy (found_by s) put_words ahead 208 c begun most n w out
-        → FilledBy (found_by s) put_words ahead 208 walk.Ended begun (answered most c) code count next after
-
-  -- the same, with the state behind the elements in the slot
-  pub record StateInto (n : ℕ) (w : BlockElementsIter) (slot out : List ℕ) (code count : ℕ) (left after : List ℕ) : Type 0 where
-    pub next : BlockElementsIter
-    pub fills : FillsUp n w out code count next after
-    pub put : left ≡ filled slot (walk_words next)
-    pub back : walk_at left ≡ next
+  -- as many as there is room for, behind the first n, with the state behind them in the slot
+  pub record StateInto (n : ℕ) (w : BlockElementsIter) (slot out : List ℕ) (r : Result ℕ Stop) (left after : List ℕ) : Type 0 where
+    pub run : Result (Run BlockElementsIter) Stop
+    pub fills : FillsUp (found_by s) put_words ahead 208 most n w out run after
+    pub put : left ≡ filled slot (walk_words (state_left walk.Ended run))
+    pub back : walk_at left ≡ state_left walk.Ended run
+    pub is : r ≡ count_of run
 
 -- the same over every record in which the state is inside
 pub record FillsInside (s : List ℕ) (most : ℕ) (w : BlockElementsIter) (out : List ℕ) (n : ℕ) (next : BlockElementsIter) (after : List ℕ) : Type 0 where
   pub by : (r : WireBlock) → is_record_inside s r ≡ true → state_inside s r w ≡ true → Fills s (elements_from s r) most w out n next after
 
 -- a call that is refused with 14; but an ended walk stays ended
-abbrev pub RefusedWhere : Bool → List ℕ → ℕ → List ℕ → Type 0
-RefusedWhere true slot code left = (code ≡ 101) × (left ≡ slot)
-RefusedWhere false slot code left = (code ≡ 14) × ((left ≡ filled slot (walk_words walk.Ended)) × (walk_at left ≡ walk.Ended))
+abbrev pub RefusedWhere : Bool → List ℕ → Stop → List ℕ → Type 0
+RefusedWhere true slot why left = (why ≡ stop.Ended) × (left ≡ slot)
+RefusedWhere false slot why left = (why ≡ stop.Refused Outside) × ((left ≡ filled slot (walk_words walk.Ended)) × (walk_at left ≡ walk.Ended))
 
-pub record RefusedInto (slot : List ℕ) (code : ℕ) (left : List ℕ) : Type 0 where
-  pub by : RefusedWhere (walk_over (walk_at slot)) slot code left
+pub record RefusedInto (slot : List ℕ) (why : Stop) (left : List ℕ) : Type 0 where
+  pub by : RefusedWhere (walk_over (walk_at slot)) slot why left

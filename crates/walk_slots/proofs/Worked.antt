@@ -4,8 +4,7 @@ use Rattle.std.specs.Prelude.{ℕ, ◌-◌, ◌^◌, ◌≡◌, refl, List, [], 
 use Rattle.numbers.specs.Little.{little, bytes, number_at}
 use Rattle.numbers.specs.Signed.{signed, twos, residue}
 use Rattle.protobuf.specs.declared.column.Column.{Column}
-use Rattle.columns.specs.declared.sums.Sum64.{Sum64}
-use Rattle.columns.specs.declared.sums.Sum32.{Sum32}
+use Rattle.columns.specs.declared.sums.Sum.{Sum}
 use Rattle.columns.specs.declared.info_rows.InfoColumns.{InfoColumns}
 use Rattle.answers.specs.Words.{words, filled}
 use Rattle.kinds.specs.declared.state.GroupRangeAt.{GroupRangeAt}
@@ -25,10 +24,10 @@ minus n = 2 ^ 64 - n
 abbrev column : ℕ → ℕ → Column
 column at e = record { at = at; end = e }
 
-abbrev sum64 : ℕ → ℕ → ℤ → Sum64
+abbrev sum64 : ℕ → ℕ → ℤ → Sum ℤ
 sum64 at e z = record { column = column at e; sum = z }
 
-abbrev sum32 : ℕ → ℕ → ℤ → Sum32
+abbrev sum32 : ℕ → ℕ → ℤ → Sum ℤ
 sum32 at e z = record { column = column at e; sum = z }
 
 abbrev range : GroupRangeAt

@@ -1,10 +1,9 @@
 -- Numbers of a state that the machine holds: those without a sign are below 2^64, and sums are of 64 or of 32 bits. It is such numbers that
 -- are read back from their words.
-use Rattle.std.specs.Prelude.{◌^◌, ◌<◌}
+use Rattle.std.specs.Prelude.{◌^◌, ◌<◌, ℤ}
 use Rattle.std.specs.Int.Signed.{mag}
 use Rattle.protobuf.specs.declared.column.Column.{Column}
-use Rattle.columns.specs.declared.sums.Sum64.{Sum64}
-use Rattle.columns.specs.declared.sums.Sum32.{Sum32}
+use Rattle.columns.specs.declared.sums.Sum.{Sum}
 use Rattle.columns.specs.declared.info_rows.InfoColumns.{InfoColumns}
 use Rattle.kinds.specs.declared.state.GroupRangeAt.{GroupRangeAt}
 use Rattle.walk.specs.declared.state.DenseNodeIter.{DenseNodeIter}
@@ -13,11 +12,11 @@ pub record ColumnHeld (c : Column) : Type 0 where
   pub at : c.at < 2 ^ 64
   pub end : c.end < 2 ^ 64
 
-pub record SumHeld (x : Sum64) : Type 0 where
+pub record SumHeld (x : Sum ℤ) : Type 0 where
   pub column : ColumnHeld x.column
   pub sum : mag x.sum < 2 ^ 63
 
-pub record Sum32Held (x : Sum32) : Type 0 where
+pub record Sum32Held (x : Sum ℤ) : Type 0 where
   pub column : ColumnHeld x.column
   pub sum : mag x.sum < 2 ^ 31
 

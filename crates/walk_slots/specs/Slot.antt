@@ -3,13 +3,12 @@
 -- a group its range, and the place in it, or the dense message's range and where its columns' readers stand. Numbers that no state has
 -- (another phase, another flag, a sum of uid or user_sid that is no int32) are read as a state that is outside every buffer, so that its
 -- step gives 14.
-use Rattle.std.specs.Prelude.{ℕ, ◌+◌, List, [], ◌∷◌, Bool, true, false, eqb}
+use Rattle.std.specs.Prelude.{ℕ, ◌+◌, List, [], ◌∷◌, Bool, true, false, eqb, ℤ}
 use Rattle.numbers.specs.Choose.{choose}
 use Rattle.numbers.specs.Little.{number_at}
 use Rattle.numbers.specs.Signed.{twos, is_int32}
 use Rattle.protobuf.specs.declared.column.Column.{Column}
-use Rattle.columns.specs.declared.sums.Sum64.{Sum64}
-use Rattle.columns.specs.declared.sums.Sum32.{Sum32}
+use Rattle.columns.specs.declared.sums.Sum.{Sum}
 use Rattle.columns.specs.declared.info_rows.InfoColumns.{InfoColumns}
 use Rattle.answers.specs.Words.{flag, signed_word}
 use Rattle.kinds.specs.declared.state.GroupRangeAt.{GroupRangeAt}
@@ -31,11 +30,8 @@ range_words of rest = of.group ∷ of.start ∷ of.len ∷ rest
 abbrev pub column_words : Column → List ℕ → List ℕ
 column_words c rest = c.at ∷ c.end ∷ rest
 
-abbrev pub sum_words : Sum64 → List ℕ → List ℕ
+abbrev pub sum_words : Sum ℤ → List ℕ → List ℕ
 sum_words x rest = column_words x.column (signed_word x.sum ∷ rest)
-
-abbrev pub sum32_words : Sum32 → List ℕ → List ℕ
-sum32_words x rest = column_words x.column (signed_word x.sum ∷ rest)
 
 abbrev pub nodes_words : DenseNodeIter → List ℕ → List ℕ
 nodes_words d rest =
@@ -47,7 +43,7 @@ nodes_words d rest =
 abbrev pub infos_words : InfoColumns → List ℕ
 infos_words i =
     column_words i.version
-    (sum_words i.timestamp (sum_words i.changeset (sum32_words i.uid (sum32_words i.user (column_words i.visible [])))))
+    (sum_words i.timestamp (sum_words i.changeset (sum_words i.uid (sum_words i.user (column_words i.visible [])))))
 
 abbrev pub loose_phase : Loose → ℕ
 loose_phase kind.Nodes = 3
@@ -74,10 +70,10 @@ module _ (s : List ℕ) where
   abbrev pub column_at : ℕ → Column
   column_at at = record { at = number_at 8 s at; end = number_at 8 s (at + 8) }
 
-  abbrev pub sum_at : ℕ → Sum64
+  abbrev pub sum_at : ℕ → Sum ℤ
   sum_at at = record { column = column_at at; sum = twos 64 (number_at 8 s (at + 16)) }
 
-  abbrev pub sum32_at : ℕ → Sum32
+  abbrev pub sum32_at : ℕ → Sum ℤ
   sum32_at at = record { column = column_at at; sum = twos 32 (number_at 8 s (at + 16)) }
 
   abbrev pub range_at : GroupRangeAt
@@ -138,3 +134,11 @@ module _ (s : List ℕ) where
   walk_by phase.DenseNodes = walk.DenseNodes nodes_at
   walk_by phase.FullDenseNodes = walk.FullDenseNodes full_nodes_at
   walk_by (phase.Messages m) = walk.Messages m
+
+-- whether a state is the ended one
+abbrev pub walk_over : BlockElementsIter → Bool
+walk_over walk.Ended = true
+walk_over (walk.Between b) = false
+walk_over (walk.DenseNodes d) = false
+walk_over (walk.FullDenseNodes d) = false
+walk_over (walk.Messages m) = false

@@ -2,12 +2,10 @@
 // state that is outside every buffer, so that a step on it gives 14.
 ghost use Rattle.std.specs.Prelude.{◌≡◌, [], ◌∷◌, ◌≤◌, length};
 ghost use Rattle.answers.specs.Words.{filled};
+ghost use Rattle.walk.specs.declared.state.BlockElementsIter.TheVariants as walk;
 ghost use Rattle.walk_slots.specs.Held.{NodesHeld, InfosHeld};
 ghost use Rattle.walk_slots.specs.Slot.{
   outside_messages,
-  column_at,
-  sum_at,
-  sum32_at,
   range_at,
   nodes_at,
   infos_at,
@@ -17,20 +15,21 @@ ghost use Rattle.walk_slots.specs.Slot.{
   live_at,
   walk_at,
   walk_by,
+  walk_over,
   loose_phase,
   nodes_words,
   infos_words,
   walk_words,
 };
 
-use answers::words::{bits_i32, put_at, put_numbers};
+use answers::words::{put_at, put_numbers};
+use calls::slot::{Slot, column_in, sum_in};
 use columns::info_rows::InfoColumns;
-use columns::sums::{Sum32, Sum64};
+use columns::sums::Sum;
 use columns::zip::RowColumns;
 use kinds::state::{DenseColumns, GroupRangeAt, Loose, Messages};
-use numbers::little::read_u64;
-use numbers::signed::{bits_i64, int32, int64, is_int32};
-use protobuf::column::Column;
+use numbers::little::Little;
+use numbers::signed::{Signed, is_int32};
 use walk::state::{Between, BlockElementsIter, DenseNodeIter, FullDenseNodeIter, Range};
 
 // What a slot's first numbers tell: the whole state but for the columns of dense nodes. Functions that branch answer this and not the
@@ -60,43 +59,13 @@ fn outside() -> PhaseIn
     })
 }
 
-fn column_in(slot: &[u8], at: usize) -> Column
-    requires { at ≤ 256 }
-    ensures { result ≡ column_at slot.now at }
-{
-    Column {
-        at: read_u64(slot, at) as usize,
-        end: read_u64(slot, at + 8) as usize,
-    }
-}
-
-fn sum_in(slot: &[u8], at: usize) -> Sum64
-    requires { at ≤ 256 }
-    ensures { result ≡ sum_at slot.now at }
-{
-    Sum64 {
-        column: column_in(slot, at),
-        sum: int64(read_u64(slot, at + 16)),
-    }
-}
-
-fn sum32_in(slot: &[u8], at: usize) -> Sum32
-    requires { at ≤ 256 }
-    ensures { result ≡ sum32_at slot.now at }
-{
-    Sum32 {
-        column: column_in(slot, at),
-        sum: int32(read_u64(slot, at + 16)),
-    }
-}
-
 fn range_in(slot: &[u8]) -> GroupRangeAt
     ensures { result ≡ range_at slot.now }
 {
     GroupRangeAt {
-        group: read_u64(slot, 16) as usize,
-        start: read_u64(slot, 24) as usize,
-        len: read_u64(slot, 32) as usize,
+        group: u64::read(slot, 16) as usize,
+        start: u64::read(slot, 24) as usize,
+        len: u64::read(slot, 32) as usize,
     }
 }
 
@@ -107,16 +76,16 @@ pub fn nodes_in(slot: &[u8]) -> DenseNodeIter
     DenseNodeIter {
         of: range_in(slot),
         message: Range {
-            start: read_u64(slot, 40) as usize,
-            len: read_u64(slot, 48) as usize,
+            start: u64::read(slot, 40) as usize,
+            len: u64::read(slot, 48) as usize,
         },
         columns: DenseColumns {
             rows: RowColumns {
-                ids: sum_in(slot, 56),
-                lats: sum_in(slot, 80),
-                lons: sum_in(slot, 104),
+                ids: sum_in(slot, 56, 64, 72),
+                lats: sum_in(slot, 80, 88, 96),
+                lons: sum_in(slot, 104, 112, 120),
             },
-            keyvals: column_in(slot, 128),
+            keyvals: column_in(slot, 128, 136),
         },
     }
 }
@@ -125,12 +94,12 @@ fn infos_in(slot: &[u8]) -> InfoColumns
     ensures { result ≡ infos_at slot.now }
 {
     InfoColumns {
-        version: column_in(slot, 144),
-        timestamp: sum_in(slot, 160),
-        changeset: sum_in(slot, 184),
-        uid: sum32_in(slot, 208),
-        user: sum32_in(slot, 232),
-        visible: column_in(slot, 256),
+        version: column_in(slot, 144, 152),
+        timestamp: sum_in(slot, 160, 168, 176),
+        changeset: sum_in(slot, 184, 192, 200),
+        uid: sum_in(slot, 208, 216, 224),
+        user: sum_in(slot, 232, 240, 248),
+        visible: column_in(slot, 256, 264),
     }
 }
 
@@ -150,7 +119,7 @@ fn messages_in(slot: &[u8], full: bool, kind: Loose) -> PhaseIn
         full,
         of: range_in(slot),
         kind,
-        at: read_u64(slot, 40) as usize,
+        at: u64::read(slot, 40) as usize,
     })
 }
 
@@ -161,10 +130,10 @@ fn dense_in(slot: &[u8], full: bool) -> PhaseIn
     if !full {
         return PhaseIn::DenseNodes;
     }
-    if !is_int32(read_u64(slot, 224)) {
+    if !is_int32(u64::read(slot, 224)) {
         return outside();
     }
-    if !is_int32(read_u64(slot, 248)) {
+    if !is_int32(u64::read(slot, 248)) {
         return outside();
     }
     PhaseIn::FullDenseNodes
@@ -177,7 +146,7 @@ fn live_in(slot: &[u8], phase: u64, full: bool) -> PhaseIn
     match phase {
         1 => PhaseIn::Between(Between {
             full,
-            group: read_u64(slot, 16) as usize,
+            group: u64::read(slot, 16) as usize,
         }),
         2 => dense_in(slot, full),
         3 => messages_in(slot, full, Loose::Nodes),
@@ -191,8 +160,8 @@ fn live_in(slot: &[u8], phase: u64, full: bool) -> PhaseIn
 pub fn phase_in(slot: &[u8]) -> PhaseIn
     ensures { walk_by slot.now result ≡ walk_at slot.now }
 {
-    let phase = read_u64(slot, 0);
-    let full = read_u64(slot, 8);
+    let phase = u64::read(slot, 0);
+    let full = u64::read(slot, 8);
     if phase == 0 {
         return PhaseIn::Ended;
     }
@@ -200,20 +169,6 @@ pub fn phase_in(slot: &[u8]) -> PhaseIn
         0 => live_in(slot, phase, false),
         1 => live_in(slot, phase, true),
         _ => outside(),
-    }
-}
-
-// The state in the slot's numbers.
-pub fn walk_in(slot: &[u8]) -> BlockElementsIter
-    ensures { result ≡ walk_at slot.now }
-{
-    let phase = phase_in(slot);
-    match phase {
-        PhaseIn::Ended => BlockElementsIter::Ended,
-        PhaseIn::Between(b) => BlockElementsIter::Between(b),
-        PhaseIn::DenseNodes => BlockElementsIter::DenseNodes(nodes_in(slot)),
-        PhaseIn::FullDenseNodes => BlockElementsIter::FullDenseNodes(full_nodes_in(slot)),
-        PhaseIn::Messages(m) => BlockElementsIter::Messages(m),
     }
 }
 
@@ -242,13 +197,13 @@ fn nodes_numbers(d: DenseNodeIter, full: u64) -> [u64; 18]
         d.message.len as u64,
         d.columns.rows.ids.column.at as u64,
         d.columns.rows.ids.column.end as u64,
-        bits_i64(d.columns.rows.ids.sum),
+        d.columns.rows.ids.sum.bits(),
         d.columns.rows.lats.column.at as u64,
         d.columns.rows.lats.column.end as u64,
-        bits_i64(d.columns.rows.lats.sum),
+        d.columns.rows.lats.sum.bits(),
         d.columns.rows.lons.column.at as u64,
         d.columns.rows.lons.column.end as u64,
-        bits_i64(d.columns.rows.lons.sum),
+        d.columns.rows.lons.sum.bits(),
         d.columns.keyvals.at as u64,
         d.columns.keyvals.end as u64,
     ]
@@ -263,16 +218,16 @@ fn infos_numbers(i: InfoColumns) -> [u64; 16]
         i.version.end as u64,
         i.timestamp.column.at as u64,
         i.timestamp.column.end as u64,
-        bits_i64(i.timestamp.sum),
+        i.timestamp.sum.bits(),
         i.changeset.column.at as u64,
         i.changeset.column.end as u64,
-        bits_i64(i.changeset.sum),
+        i.changeset.sum.bits(),
         i.uid.column.at as u64,
         i.uid.column.end as u64,
-        bits_i32(i.uid.sum),
+        i.uid.sum.bits(),
         i.user.column.at as u64,
         i.user.column.end as u64,
-        bits_i32(i.user.sum),
+        i.user.sum.bits(),
         i.visible.at as u64,
         i.visible.end as u64,
     ]
@@ -317,16 +272,56 @@ pub fn put_messages(slot: &mut [u8], m: Messages)
     );
 }
 
-// Puts the numbers of a state into a slot; those that its phase has not stay as they were, and so does a slot that is too short for them.
-pub fn put_walk(slot: &mut [u8], state: BlockElementsIter)
-    ensures after { slot.new ≡ filled slot.old (walk_words state) }
-    ensures back { 272 ≤ length slot.old → walk_at slot.new ≡ state }
-{
-    match state {
-        BlockElementsIter::Ended => put_numbers(slot, &[0]),
-        BlockElementsIter::Between(b) => put_numbers(slot, &[1, b.full as u64, b.group as u64]),
-        BlockElementsIter::DenseNodes(d) => put_nodes(slot, d),
-        BlockElementsIter::FullDenseNodes(f) => put_full(slot, f),
-        BlockElementsIter::Messages(m) => put_messages(slot, m),
+// The state in a slot's 272 bytes.
+pub struct WalkState;
+
+impl Slot for WalkState {
+    type State = BlockElementsIter;
+
+    const WIDTH: usize = 272;
+
+    ghost WIDTH = { 272 };
+
+    ghost words = { walk_words };
+
+    ghost state_at = { walk_at };
+
+    ghost over = { walk.Ended };
+
+    ghost is_over = { walk_over };
+
+    fn over() -> BlockElementsIter {
+        BlockElementsIter::Ended
+    }
+
+    fn is_over(state: BlockElementsIter) -> bool {
+        match state {
+            BlockElementsIter::Ended => true,
+            BlockElementsIter::Between(_) => false,
+            BlockElementsIter::DenseNodes(_) => false,
+            BlockElementsIter::FullDenseNodes(_) => false,
+            BlockElementsIter::Messages(_) => false,
+        }
+    }
+
+    fn state_in(slot: &[u8]) -> BlockElementsIter {
+        match phase_in(slot) {
+            PhaseIn::Ended => BlockElementsIter::Ended,
+            PhaseIn::Between(b) => BlockElementsIter::Between(b),
+            PhaseIn::DenseNodes => BlockElementsIter::DenseNodes(nodes_in(slot)),
+            PhaseIn::FullDenseNodes => BlockElementsIter::FullDenseNodes(full_nodes_in(slot)),
+            PhaseIn::Messages(m) => BlockElementsIter::Messages(m),
+        }
+    }
+
+    // Numbers that the state's phase has not stay as they were.
+    fn put_state(slot: &mut [u8], state: BlockElementsIter) {
+        match state {
+            BlockElementsIter::Ended => put_numbers(slot, &[0]),
+            BlockElementsIter::Between(b) => put_numbers(slot, &[1, b.full as u64, b.group as u64]),
+            BlockElementsIter::DenseNodes(d) => put_nodes(slot, d),
+            BlockElementsIter::FullDenseNodes(f) => put_full(slot, f),
+            BlockElementsIter::Messages(m) => put_messages(slot, m),
+        }
     }
 }

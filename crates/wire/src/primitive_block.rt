@@ -1,5 +1,8 @@
 // PrimitiveBlock: the block's own fields.
-ghost use Rattle.std.specs.Prelude.{◌≡◌, ◌+◌, ◌^◌, ◌≤◌, ◌<◌, IfOk};
+ghost use Rattle.std.specs.Prelude.{◌≡◌, ◌+◌, ◌^◌, ◌≤◌, ◌<◌, IfOk, Ok, Err};
+ghost use Rattle.protobuf.specs.declared.refusal.Refusal.TheVariants.{Granularity};
+ghost use Rattle.numbers.specs.Choose.{choose};
+ghost use Rattle.numbers.specs.Signed.{is_int32};
 ghost use Rattle.message.specs.Answers.{field_by};
 ghost use Rattle.fields.specs.Outcome.{each};
 ghost use Rattle.fields.specs.View.{Slots, store, view};
@@ -23,6 +26,17 @@ pub struct BlockFields {
     pub lonoffset: u64,
 }
 
+// A granularity's number as it was read: 8 where int32 does not hold it.
+fn granularity(value: u64) -> Result<u64, Refusal>
+    ensures { result ≡ choose (is_int32 value) (Ok value) (Err Granularity) }
+{
+    if is_int32(value) {
+        Ok(value)
+    } else {
+        Err(Refusal::Granularity)
+    }
+}
+
 // One field, by its number with its wire type; any other pair is passed over. The last string table wins.
 fn store_block(v: BlockFields, field: Field) -> Result<BlockFields, Refusal>
     requires { v.groups + 1 < 2 ^ 64 }
@@ -43,26 +57,14 @@ fn store_block(v: BlockFields, field: Field) -> Result<BlockFields, Refusal>
             groups: v.groups + 1,
             ..v
         }),
-        primitive_block::GRANULARITY => {
-            if is_int32(value) {
-                Ok(BlockFields {
-                    granularity: value,
-                    ..v
-                })
-            } else {
-                Err(Refusal::Granularity)
-            }
-        }
-        primitive_block::DATE_GRANULARITY => {
-            if is_int32(value) {
-                Ok(BlockFields {
-                    dategranularity: value,
-                    ..v
-                })
-            } else {
-                Err(Refusal::Granularity)
-            }
-        }
+        primitive_block::GRANULARITY => Ok(BlockFields {
+            granularity: granularity(value)?,
+            ..v
+        }),
+        primitive_block::DATE_GRANULARITY => Ok(BlockFields {
+            dategranularity: granularity(value)?,
+            ..v
+        }),
         primitive_block::LAT_OFFSET => Ok(BlockFields {
             latoffset: value,
             ..v

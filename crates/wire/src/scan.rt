@@ -12,7 +12,7 @@ use crate::tables::write_entries;
 use fields::schema::primitive_block::GROUP;
 use fields::schema::string_table::STRINGS;
 use message::field::next_field;
-use numbers::signed::{int32, int64};
+use numbers::signed::Signed;
 use protobuf::refusal::Refusal;
 
 // The longest block that is scanned.
@@ -57,10 +57,10 @@ fn record_of(block: usize, top: BlockFields, strings: usize) -> WireBlock
         stringtable: block,
         groups: top.groups,
         grouptable: block + 8 * strings,
-        granularity: int32(top.granularity),
-        dategranularity: int32(top.dategranularity),
-        latoffset: int64(top.latoffset),
-        lonoffset: int64(top.lonoffset),
+        granularity: i32::of_bits(top.granularity),
+        dategranularity: i32::of_bits(top.dategranularity),
+        latoffset: i64::of_bits(top.latoffset),
+        lonoffset: i64::of_bits(top.lonoffset),
     }
 }
 

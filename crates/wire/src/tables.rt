@@ -5,7 +5,7 @@ ghost use Rattle.message.specs.Message.{message};
 ghost use Rattle.wire.specs.Tables.{entry, entries, Room};
 
 use message::field::next_field;
-use numbers::little::write_u32;
+use numbers::little::Little;
 
 // One entry, at the start of the tail that is lent: the lowest 4 bytes of each number, which are all that an offset or a length within a
 // block has.
@@ -13,12 +13,13 @@ fn write_entry(tail: &mut [u8], start: usize, len: usize)
     requires { 8 ≤ length tail.old }
     ensures { tail.new ≡ written tail.old 0 (entry start len) }
 {
-    write_u32(tail, 0, (start % 0x1_0000_0000) as u32);
-    write_u32(tail, 4, (len % 0x1_0000_0000) as u32);
+    ((start % 0x1_0000_0000) as u32).write(tail, 0);
+    ((len % 0x1_0000_0000) as u32).write(tail, 4);
 }
 
 // The entries of a message's fields of `tag` (field number times 8, plus wire type 2), from `to` on, where the message is the `len` bytes
-// from `base`, before `to`. Each is written into the tail behind those before it.
+// from `base`, before `to`. Each is written into the tail behind those before it; so the fields are read place by place, and no iterator keeps
+// the buffer.
 pub(crate) fn write_entries(buffer: &mut [u8], base: usize, len: usize, tag: u32, to: usize)
     requires { Room buffer.old base len tag to }
     ensures { buffer.new ≡ written buffer.old to (entries base (tag / 8) (message (take len (drop base buffer.old)))) }

@@ -11,7 +11,6 @@ use borrow.Author.Tests.{le-leb, lt-ltb}
 use Rattle.protobuf.specs.declared.refusal.Refusal.{Refusal}
 use Rattle.protobuf.specs.declared.refusal.Refusal.TheVariants.{Outside}
 use Rattle.numbers.specs.Choose.{choose}
-use Rattle.protobuf.proofs.laws.Stream.{none_left}
 use Rattle.fields.specs.declared.part.Part.{Part}
 use Rattle.fields.specs.Outcome.{Outcome, onward}
 use Rattle.fields.proofs.laws.Outcome.{went}
@@ -31,12 +30,6 @@ use Rattle.fields.specs.Parts.{messages_of}
 -- those before i are passed
 pub record Entries (f : Part → Outcome Unit) (s : List ℕ) (r : WireBlock) (i : ℕ) : Type 0 where
   pub so : all f (groups_in s r) ≡ all f (parts_at s (r.grouptable + 8 * i) (r.groups - i))
-
-pub entries_begin : (f : Part → Outcome Unit) (s : List ℕ) (r : WireBlock) → Entries f s r 0
-entries_begin f s r =
-    let place : r.grouptable ≡ r.grouptable + 8 * 0 = omega arith in
-    let left : r.groups ≡ r.groups - 0 = omega arith in
-    record { so = λ j. all f (parts_at s (place j) (left j)) }
 
 module _ {f : Part → Outcome Unit} {s : List ℕ} {r : WireBlock} {i : ℕ} (w : Entries f s r i) where
   pub entries-end : r.groups ≤ i → all f (groups_in s r) ≡ passed

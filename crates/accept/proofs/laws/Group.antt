@@ -8,7 +8,7 @@ use native.Mathlib.Nat.{zero-add}
 use native.Mathlib.Omega.{arith}
 use lib.ListN.{length, take, drop}
 use lib.Seq.{take_all}
-use borrow.Author.Tests.{le-leb, ne_eqb}
+use borrow.Author.Tests.{le-leb}
 use Rattle.protobuf.specs.declared.refusal.Refusal.{Refusal}
 use Rattle.numbers.specs.Choose.{choose}
 use Rattle.protobuf.specs.Stream.{Item, last, item, follow}
@@ -19,7 +19,6 @@ use Rattle.fields.specs.declared.part.Part.{Part}
 use Rattle.fields.specs.Outcome.{Outcome, onward, each}
 use Rattle.fields.proofs.laws.Outcome.{each-kept, each-refused}
 use Rattle.block.specs.Check.{passed, all, check_dense, check_found, check_loose, check_group}
-use Rattle.accept.specs.Accept.{element_of}
 use Rattle.block.proofs.laws.Onward.{on-refused, on-kept, all-refused, all-on, all_one}
 use Rattle.fields.specs.Part.{no_part, part_by, moved, bytes_of, bytes_in}
 use Rattle.groups.specs.Group.{dense_from, dense_in}
@@ -80,15 +79,6 @@ module _ {check : List ℕ → Outcome Unit} {tag : ℕ} {s : List ℕ} {p : ℕ
 
     pub passing-falls : length s - q < length s - p
     passing-falls = omega (arith, (fields-forward s).moves p q _ e)
-
--- ---- a message by its tag
-
-module _ (tag : ℕ) (s : List ℕ) where
-  pub element-is : {k : ℕ} → tag ≡ k → element_of tag s ≡ element_of k s
-  element-is e = ap (λ (t : ℕ). element_of t s) e
-
-  pub no-element : (tag ≡ 10 → ⊥) → (tag ≡ 26 → ⊥) → (tag ≡ 34 → ⊥) → element_of tag s ≡ passed
-  no-element a b c = simp (ne_eqb tag 10 a, ne_eqb tag 26 b, ne_eqb tag 34 c)
 
 -- ---- the dense message
 

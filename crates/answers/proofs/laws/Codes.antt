@@ -1,18 +1,15 @@
 -- Laws of codes and of what an answer's slice is left as: too short for the answer, or long enough and then by the outcome.
 use Rattle.std.specs.Prelude.{Ok, Err}
 use Prim.Native.Nat.{ℕ, ◌*◌, ◌≤◌, ◌<◌}
-use mathlib.Core.Path.{◌≡◌, refl, ap, ◌∙◌}
+use mathlib.Core.Path.{◌≡◌, refl, subst}
 use mathlib.Core.List.{List}
 use native.Mathlib.Omega.{arith}
 use lib.ListN.{length}
 use lib.Dec.{leb}
 use borrow.Author.Tests.{le-leb, lt-leb}
-use Rattle.protobuf.specs.declared.refusal.Refusal.{Refusal}
 use Rattle.numbers.specs.Choose.{choose}
-use Rattle.protobuf.specs.Refusal.{number}
 use Rattle.fields.specs.Outcome.{Outcome}
-use Rattle.answers.specs.Words.{filled}
-use Rattle.answers.specs.Codes.{answer_code, answer_after}
+use Rattle.answers.specs.Codes.{answer_after, Answers}
 use Rattle.answers.proofs.laws.Words.{put-short}
 
 -- a slice of fewer than n bytes, and one of n or more
@@ -25,19 +22,13 @@ module _ {A : Type 0} (n : ℕ) (out : List ℕ) (x y : A) where
 
 -- an answer of n numbers, that f gives
 module _ {A : Type 0} (n : ℕ) (f : A → List ℕ) (out : List ℕ) where
-  -- the code and the slice after it
-  abbrev pub Answered : ℕ → List ℕ → Outcome A → Type 0
-  Answered code after x = (code ≡ answer_code n out x) × (after ≡ answer_after f out x)
-
-  pub answer-short : ((a : A) → length (f a) ≡ n) → (x : Outcome A) → length out < 8 * n → Answered 14 out x
-  answer-short size x h = (too_short (8 * n) out _ 14 h, untouched x)
+  pub answer-short : ((a : A) → length (f a) ≡ n) → (x : Outcome A) → length out < 8 * n → Answers n f out x 14 out
+  answer-short size x h = record { code = too_short (8 * n) out _ 14 h; after = untouched x }
     where
       untouched : (x : Outcome A) → out ≡ answer_after f out x
       untouched (Ok a) = put-short out (f a) (omega (arith, size a))
       untouched (Err r) = refl
 
-  pub answer-kept : {x : Outcome A} {a : A} {ws after : List ℕ} → 8 * n ≤ length out → x ≡ Ok a → ws ≡ f a → after ≡ filled out ws → Answered 0 after x
-  answer-kept h e g k = (rw (e, le-leb (8 * n) (length out) h), rw e (k ∙ ap (filled out) g))
-
-  pub answer-refused : {x : Outcome A} {r : Refusal} {code : ℕ} → 8 * n ≤ length out → x ≡ Err r → code ≡ number r → Answered code out x
-  answer-refused h e g = (rw (e, le-leb (8 * n) (length out) h) g, rw e)
+-- what was put is what was found
+pub answer-put : {A : Type 0} {n : ℕ} {f : A → List ℕ} {out : List ℕ} {x y : Outcome A} {code : ℕ} {after : List ℕ} → Answers n f out x code after → x ≡ y → Answers n f out y code after
+answer-put {n = n} {f} {out} {code = code} {after} put same = subst (λ x. Answers n f out x code after) same put

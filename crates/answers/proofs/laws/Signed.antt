@@ -61,9 +61,6 @@ wide f = subst Wide (sym f.is) (by (ltb f.bits (2 ^ 31)) refl)
 
 -- ---- a signed number that is held as its bits
 
-pub widened : (z : ℤ) → SFits w32 z → SFits w64 (to_z w32 (of_z w32 z))
-widened z f = rw (to_z-of_z f) (sfits_widen tt f)
-
 -- passed to a function that gives its number at 64 bits
 pub as_word : (W : Width) (z : ℤ) {x : ℕ} → mag z < 2 ^ hbits W → x ≡ signed_word (to_z W (of_z W z)) → x ≡ signed_word z
 as_word W z h e = e ∙ ap signed_word (to_z-of_z {w = W} {z = z} (record { sfits = h }))

@@ -6,6 +6,7 @@ use mathlib.Core.List.{List, [], ◌∷◌, ◌++◌, map, append_assoc}
 use native.Mathlib.Omega.{arith}
 use lib.ListN.{length}
 use lib.IntN.{ℤ}
+use Rattle.std.proofs.lemmas.List.{length-map}
 use Rattle.fields.specs.Parts.{messages_of}
 use Rattle.block.specs.Tags.{Pair}
 use Rattle.block.specs.Strings.{Text}
@@ -14,7 +15,7 @@ use Rattle.block.specs.Listing.{Element, Listing, node_element, way_element, rel
 use Rattle.block.specs.Content.{GroupContent, Content, node_content, way_content, relation_content, group_content, content}
 use Rattle.block.proofs.laws.Lists.{Each, no_more, and-also, head_or, tail_or, map_through}
 use Rattle.block.proofs.laws.Split.{rank, Of, Behind, split, all-behind, still_behind, both_behind}
-use Rattle.block.proofs.laws.Said.{map-length, node-told, node-listed, way-told, way-listed, EvenRelation, relation-told, relation-listed, EvenDense, dense-told, dense-listed}
+use Rattle.block.proofs.laws.Said.{node-told, node-listed, way-told, way-listed, EvenRelation, relation-told, relation-listed, EvenDense, dense-told, dense-listed}
 
 -- every column of a group that the check compares has the count of its neighbours
 pub record EvenGroup (s : List ℕ) : Type 0 where
@@ -196,7 +197,7 @@ module _ (a b : List ℕ) (ha : Each EvenGroup (messages_of 2 a)) (hb : Each Eve
   unfolding listing content
   content-listed p =
       let same = ap (λ (c : Content). c.groups) p in
-      let counts = sym (map-length (group_content (strings_of a)) (messages_of 2 a)) ∙ ap length same ∙ map-length (group_content (strings_of b)) (messages_of 2 b) in
+      let counts = sym (length-map (messages_of 2 a) (group_content (strings_of a))) ∙ ap length same ∙ length-map (messages_of 2 b) (group_content (strings_of b)) in
       let elements = listed (strings_of a) (strings_of b) 0 (messages_of 2 a) (messages_of 2 b) same in
       (λ i. record { granularity = (p i).granularity; latoffset = (p i).latoffset; lonoffset = (p i).lonoffset; groups = counts i; elements = elements i })
 

@@ -7,6 +7,7 @@ use mathlib.Core.Option.{Option, none, some}
 use native.Mathlib.Omega.{arith}
 use lib.ListN.{length}
 use lib.IntN.{ℤ, pos, negsuc}
+use Rattle.std.proofs.lemmas.List.{length-map}
 use Rattle.protobuf.specs.Column.{int32s, sint64s, sums}
 use Rattle.numbers.proofs.laws.Signed.{InRange}
 use Rattle.fields.specs.Schema.{way, relation}
@@ -18,10 +19,6 @@ use Rattle.block.specs.Listing.{Position, MemberId, of_node, of_way, of_relation
 use Rattle.block.specs.Content.{DenseContent, NodeContent, WayContent, RelationContent, dense_content, node_content, way_content, relation_content}
 use Rattle.block.proofs.laws.Lists.{Each}
 use Rattle.block.proofs.laws.Sums.{sum_list, values-of-sums, sums-length, sums_determine, zigzag-values}
-
-pub map-length : {A B : Type 0} (f : A → B) (xs : List A) → length (map f xs) ≡ length xs
-map-length f [] = refl
-map-length f (x ∷ xs) = omega (arith, map-length f xs)
 
 lat_of : Option Position → ℤ
 lat_of none = pos 0
@@ -199,9 +196,9 @@ module _ (group : ℕ) where
         let sums-t = sum_list 64 (pos 0) (member_ids t) in
         let roles-s = map (role_text strings) (role_numbers s) in
         let roles-t = map (role_text strings') (role_numbers t) in
-        let e1 : length roles-s ≡ length sums-s = map-length (role_text strings) (role_numbers s) ∙ hs.ids ∙ sym (sums-length 64 (pos 0) (member_ids s)) in
+        let e1 : length roles-s ≡ length sums-s = length-map (role_numbers s) (role_text strings) ∙ hs.ids ∙ sym (sums-length 64 (pos 0) (member_ids s)) in
         let e2 : length sums-s ≡ length (member_types s) = sums-length 64 (pos 0) (member_ids s) ∙ hs.types in
-        let f1 : length roles-t ≡ length sums-t = map-length (role_text strings') (role_numbers t) ∙ ht.ids ∙ sym (sums-length 64 (pos 0) (member_ids t)) in
+        let f1 : length roles-t ≡ length sums-t = length-map (role_numbers t) (role_text strings') ∙ ht.ids ∙ sym (sums-length 64 (pos 0) (member_ids t)) in
         let f2 : length sums-t ≡ length (member_types t) = sums-length 64 (pos 0) (member_ids t) ∙ ht.types in
         let same = ap (λ (e : Element). e.members) q in
         let b = members-back roles-s sums-s (member_types s) e1 e2 in
@@ -291,7 +288,7 @@ module _ (group : ℕ) where
       record {
         lats = own ∙ h.lats ∙ sym (sums-length 64 (pos 0) (values_of d.lats));
         lons = own ∙ h.lons ∙ sym (sums-length 64 (pos 0) (values_of d.lons));
-        tags = own ∙ h.tags ∙ sym (map-length (shown strings) d.tags);
+        tags = own ∙ h.tags ∙ sym (length-map d.tags (shown strings));
       }
 
   module _ (strings strings' : List Text) (d e : Dense) where

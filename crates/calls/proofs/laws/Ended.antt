@@ -1,4 +1,5 @@
 -- Laws of a column that has ended: its reader stands at its end, inside the bytes, and has nothing before it, which is also the end of its sums.
+use lib.IntN.{ℤ}
 use Prim.Native.Nat.{ℕ, ◌≤◌, ◌<◌}
 use native.Mathlib.Omega.{arith}
 use mathlib.Core.Path.{◌≡◌, refl, sym, ap}
@@ -13,9 +14,9 @@ use Rattle.protobuf.specs.declared.refusal.Refusal.TheVariants.{Outside}
 use Rattle.protobuf.specs.declared.column.Column as state
 use Rattle.protobuf.specs.Answers.{step_by}
 use Rattle.protobuf.specs.Stream.{end}
-use Rattle.protobuf.specs.Column.{ended, cut, Column, column_from}
+use Rattle.protobuf.specs.Column.{ended, cut, column_from}
 use Rattle.protobuf.proofs.laws.Column.{step_end}
-use Rattle.columns.specs.declared.sums.Sum64.{Sum64}
+use Rattle.columns.specs.declared.sums.Sum.{Sum}
 use Rattle.columns.specs.InStep.{ahead}
 use Rattle.columns.specs.Inside.{also, column_inside}
 use Rattle.columns.specs.Zip.{sum64_ahead}
@@ -44,5 +45,5 @@ module _ (s : List ℕ) (c : state.Column) where
         by true false g = absurd (let z : ◌≡◌ {A = ℕ} 0 1 = cc in omega arith)
         by false b g = absurd (let z : ◌≡◌ {A = ℕ} 0 1 = cc in omega arith)
 
-pub sums-ended : (s : List ℕ) (c : Sum64) → ahead s c.column ≡ end ended → sum64_ahead s c ≡ end ended
+pub sums-ended : (s : List ℕ) (c : Sum ℤ) → ahead s c.column ≡ end ended → sum64_ahead s c ≡ end ended
 sums-ended s c e = summed_end 64 c.sum (mapped_end (zigzag 64) e)

@@ -1,8 +1,7 @@
--- Laws of numbers in a slot: what was put is read back, signed numbers too. Then what is handed out over the record in a slice.
-use Rattle.std.specs.Prelude.{Ok, Err}
-use Prim.Native.Nat.{ℕ, zero, suc, ◌-◌, ◌*◌, ◌^◌, ◌≤◌, ◌<◌}
+-- Laws of numbers in a slot: what was put is read back, signed numbers too.
+use Prim.Native.Nat.{ℕ, suc, ◌-◌, ◌*◌, ◌^◌, ◌≤◌, ◌<◌}
 use native.Mathlib.Omega.{arith}
-use mathlib.Core.Path.{◌≡◌, refl, sym, ap, ◌∙◌, subst}
+use mathlib.Core.Path.{◌≡◌, sym, ap, ◌∙◌}
 use mathlib.Core.List.{List}
 use lib.ListN.{length, get_or}
 use lib.IntN.{ℤ, pos, negsuc}
@@ -11,16 +10,9 @@ use borrow.Author.Tests.{le-leb, lt-ltb, le-ltb}
 use Rattle.numbers.specs.Little.{number_at}
 use Rattle.numbers.specs.Signed.{signed, twos}
 use Rattle.numbers.proofs.laws.Signed.{InRange, sub-below}
-use Rattle.protobuf.specs.declared.refusal.Refusal.{Refusal}
-use Rattle.protobuf.specs.Column.{Column}
-use Rattle.fields.specs.Outcome.{Outcome}
-use Rattle.wire.specs.declared.record.WireBlock.{WireBlock}
 use Rattle.answers.specs.Words.{filled, signed_word}
 use Rattle.answers.proofs.laws.Words.{word_back}
 use Rattle.answers.proofs.laws.Signed.{signed_back}
-use Rattle.calls.specs.Calls.{answered}
-use Rattle.calls.specs.Filling.{FilledBy}
-use Rattle.calls.specs.Slots.{with_record}
 
 -- a number that the machine holds in 64 bits
 pub in_range : (z : ℤ) → mag z < 2 ^ 63 → InRange 64 z
@@ -46,20 +38,3 @@ pub state_put : {W : Type 0} (state_at : List ℕ → W) (stateWords : W → Lis
     → (width ≤ length slot → state_at (filled slot (stateWords known)) ≡ known) → (after ≡ filled slot (stateWords w)) × (width ≤ length slot → state_at after ≡ w)
 state_put state_at stateWords width slot e k back =
     (e ∙ ap (λ v. filled slot (stateWords v)) (sym k), λ h. ap state_at e ∙ back h ∙ sym k)
-
--- ---- over the record in a slice
-
-module _ {W A B : Type 0} (g : B → A) (f : B → List ℕ) (from : WireBlock → W → Column A) (size : ℕ) (over : W) (out : List ℕ) (most : ℕ) (w : W) where
-  abbrev FilledOver : Outcome WireBlock → ℕ → ℕ → W → List ℕ → Type 0
-  FilledOver x = FilledBy g f (λ v. with_record x (λ r. from r v)) size over out (answered most (with_record x (λ r. from r w)))
-
-  pub over-record : {read : Outcome WireBlock} {b : WireBlock} {code count : ℕ} {next : W} {after : List ℕ} → read ≡ Ok b → FilledBy g f (from b) size over out (answered most (from b w)) code count next after → FilledOver read code count next after
-  over-record {code = code} {count} {next} {after} e q = subst (λ (x : Outcome WireBlock). FilledOver x code count next after) (sym e) q
-
-  pub over_none : {read : Outcome WireBlock} {n : Refusal} → read ≡ Err n → FilledOver read 14 0 over out
-  unfolding answered
-  over_none {n = n} e = subst (λ (x : Outcome WireBlock). FilledOver x 14 0 over out) (sym e) (by most)
-    where
-      by : (m : ℕ) → FilledBy g f (λ v. with_record (Err n) (λ r. from r v)) size over out (answered m (with_record (Err n) (λ r. from r w))) 14 0 over out
-      by zero = record { by = (refl, (refl, (refl, refl))) }
-      by (suc m) = record { by = (refl, (refl, (refl, refl))) }

@@ -51,10 +51,3 @@ module _ (s : List ℕ) (from : state.Column) where
       pub count-one : Counting s from next (n + 1)
       unfolding count_of
       count-one = record { so = known e ∙ added_one n (count_of (ahead s next)); room = omega (arith, w.room, more_shortens e) }
-
-      pub count_fits : n + 1 ≤ length s
-      count_fits = omega (arith, w.room, more_shortens e)
-
--- a count from the start of a part
-pub counted_start : (s : List ℕ) (part : Part) {column : state.Column} {x : Outcome ℕ} → x ≡ count_of (ahead s column) → column ≡ start_of part → x ≡ count_of (ahead s (start_of part))
-counted_start s part e g = e ∙ ap (λ (c : state.Column). count_of (ahead s c)) g

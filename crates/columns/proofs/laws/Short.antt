@@ -1,4 +1,5 @@
 -- Laws of the short ways: a word that is not 0 tells the next value of a column, whose reader is inside the bytes before it and behind it.
+use lib.IntN.{ℤ}
 use Prim.Native.Nat.{ℕ, ◌+◌, ◌/◌, ◌%◌, ◌≤◌, ◌<◌}
 use native.Mathlib.Omega.{arith}
 use mathlib.Core.Path.{◌≡◌, refl, sym, ap}
@@ -21,7 +22,7 @@ use Rattle.columns.specs.InStep.{ahead}
 use Rattle.columns.specs.Inside.{column_inside}
 use Rattle.columns.proofs.laws.InStep.{stepped}
 use Rattle.columns.proofs.laws.Inside.{also-true}
-use Rattle.columns.specs.declared.sums.Sum64.{Sum64}
+use Rattle.columns.specs.declared.sums.Sum.{Sum}
 use Rattle.columns.specs.Zip.{sum64_ahead, moved_sum}
 use Rattle.columns.proofs.laws.Zip.{mapped-more, summed-more}
 
@@ -52,6 +53,6 @@ module _ (s : List ℕ) (c : Column) {word : ℕ} (some : word ≡ 0 → ⊥) (h
   word_inside = also-true (le-leb (c.at + word % 16) c.end word_within.1.0) (le-leb c.end (length s) word_within.1.1)
 
 -- of a column that is summed: the sum behind it
-pub sum_word : (s : List ℕ) (c : Sum64) {word : ℕ} → (word ≡ 0 → ⊥) → Short (step_at s c.column.at c.column.end) c.column.at word
+pub sum_word : (s : List ℕ) (c : Sum ℤ) {word : ℕ} → (word ≡ 0 → ⊥) → Short (step_at s c.column.at c.column.end) c.column.at word
     → sum64_ahead s c ≡ more (moved_sum c word).sum (sum64_ahead s (moved_sum c word))
 sum_word s c some h = summed-more 64 c.sum (mapped-more (zigzag 64) (word_tells s c.column some h) refl) refl

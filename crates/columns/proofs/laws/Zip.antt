@@ -5,7 +5,8 @@ use Prim.Native.Nat.{ℕ, ◌^◌, ◌<◌}
 use mathlib.Core.Path.{◌≡◌, refl, sym, ap, ◌∙◌}
 use mathlib.Core.List.{List}
 use mathlib.Core.Bool.{Bool}
-use lib.IntN.{ℤ}
+use lib.IntN.{ℤ, pos}
+use Rattle.columns.specs.declared.sums.Sum.{Sum}
 use lib.Signed.{mag}
 use mir.Syntax.{Width}
 use mir.Val.{bits, hbits, to_z, of_z}
@@ -68,11 +69,9 @@ pub zipped : {A B C D : Type 0} {first : A → C} {second : B → D} {firsts : A
 zipped {first = first} {second = second} {firsts = firsts} {seconds = seconds} {a = a} {b = b} h k e =
     record { so = ap (said_by _ _) e ∙ zip-said first second firsts seconds a b ∙ λ i. zip (h.so i) (k.so i) }
 
--- a sum whose terms and result the machine holds as their bits
-pub held-sum : (W : Width) (sum : ℤ) {d r z : ℤ} → mag sum < 2 ^ hbits W → mag d < 2 ^ hbits W → d ≡ z → mag r < 2 ^ hbits W
-    → r ≡ wrapping_add (bits W) (to_z W (of_z W sum)) (to_z W (of_z W d)) → to_z W (of_z W r) ≡ wrapping_add (bits W) sum z
-held-sum W sum fs fd e fr g =
-    returned W fr (g ∙ (λ i. wrapping_add (bits W) (returned W {r = sum} fs refl i) (returned W fd e i)))
+-- a sum by its two parts
+pub sum-is : {x : Sum ℤ} {c : state.Column} {z : ℤ} → x.column ≡ c → x.sum ≡ z → x ≡ record { column = c; sum = z }
+sum-is e g = λ i. record { column = e i; sum = g i }
 
 -- ---- a column by its next value: what its field's type makes of it, the running sum, and two columns in step
 

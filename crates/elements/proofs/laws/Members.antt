@@ -97,19 +97,3 @@ module _ (s : List ℕ) (r : WireBlock) where
   role_above : (z : ℤ) {x : Outcome (Option Part)} → lt_z z (pos 0) ≡ false → x ≡ get_at s r (nat_abs z) → ((b : List ℕ) (n : ℕ) → Scanned-as s r b n → x ≡ string_of (take n b) (nat_abs z)) → Role-clauses s r z x
   role_above (pos n) e g h = (g, h)
   role_above (negsuc n) e g h = absurd (true≢false e)
-
-  module _ (z : ℤ) (f : SFits w32 z) where
-    pub role-negative : lt_z (to_z w32 (of_z w32 z)) (pos 0) ≡ true → Role-clauses s r z (Ok None)
-    role-negative e = role-below z (rw (to_z-of_z w32 z f) at e)
-
-    pub role-found : {x : Outcome (Option Part)} → lt_z (to_z w32 (of_z w32 z)) (pos 0) ≡ false → x ≡ get_at s r (nat_abs (to_z w32 (of_z w32 z)))
-        → ((b : List ℕ) (n : ℕ) → Scanned-as s r b n → x ≡ string_of (take n b) (nat_abs (to_z w32 (of_z w32 z)))) → Role-clauses s r z x
-    role-found e g h =
-        let same = ap nat_abs (to_z-of_z w32 z f) in
-        role_above z (rw (to_z-of_z w32 z f) at e) (g ∙ ap (get_at s r) same) λ b n w. h b n w ∙ ap (string_of (take n b)) same
-
--- what its cast to a string's number asks
-pub role_cast : {z : ℤ} → SFits w32 z → lt_z (to_z w32 (of_z w32 z)) (pos 0) ≡ false → T (non_neg (to_z w32 (of_z w32 z))) × Fits w64 (nat_abs (to_z w32 (of_z w32 z)))
-role_cast f e =
-    let asks = (not_negative w32 f e).asks in
-    (asks.0, record { fits = omega (arith, asks.1.fits) })

@@ -24,10 +24,8 @@ use Rattle.columns.specs.Zip.{tags_ahead, tags_said}
 use Rattle.elements.specs.declared.tags.TagIter.{TagIter}
 use Rattle.elements.specs.declared.tags.TagIter.TheVariants as iter
 use Rattle.elements.specs.declared.tags.RawTag.{RawTag}
-use Rattle.elements.specs.declared.tags.RawTagStep.{RawTagStep}
-use Rattle.elements.specs.declared.tags.RawTagStep.TheVariants as raw
 use Rattle.elements.specs.declared.tags.Tag.{Tag}
-use Rattle.elements.specs.Tags.{pair_by, pair_of, pairs_of, tag_then, found_tags, raw_tags_from, tags_by, tags_from, raw_tag_said}
+use Rattle.elements.specs.Tags.{pair_by, pair_of, pairs_of, tag_then, found_tags, raw_tags_from, tags_by, tags_from}
 
 pub pairs-ended : (s : List ℕ) {w : TagIter} → w ≡ iter.Ended → end ended ≡ raw_tags_from s w
 unfolding raw_tags_from
@@ -126,20 +124,23 @@ module _ (s : List ℕ) (b : WireBlock) where
     texts-from (iter.KeysVals c) = texts-inside (iter.KeysVals c)
 
     -- what an answer in numbers comes to, once its texts are looked up
-    abbrev pub texts_of : RawTagStep → Column Tag
-    texts_of (raw.Tag p next) = tag_then p (get_at s b p.key) (get_at s b p.value) (tags_from s b next)
-    texts_of (raw.Ended next) = end ended
-    texts_of (raw.Refused r next) = end (cut r)
+    abbrev pub texts_of : Outcome (Option (RawTag × TagIter)) → Column Tag
+    texts_of (Ok (Some (p, next))) = tag_then p (get_at s b p.key) (get_at s b p.value) (tags_from s b next)
+    texts_of (Ok None) = end ended
+    texts_of (Err r) = end (cut r)
 
-    texts-by : (known : RawTagStep) → texts_of known ≡ found_tags (get_at s b) (raw_tag_said s known)
+    abbrev pub numbers_said : Outcome (Option (RawTag × TagIter)) → Column RawTag
+    numbers_said = said_by (λ x. x.0) (λ x. raw_tags_from s x.1)
+
+    texts-by : (known : Outcome (Option (RawTag × TagIter))) → texts_of known ≡ found_tags (get_at s b) (numbers_said known)
     unfolding found_tags
-    texts-by (raw.Tag p next) = ap (tag_then p (get_at s b p.key) (get_at s b p.value)) (texts-from next)
-    texts-by (raw.Ended next) = refl
-    texts-by (raw.Refused r next) = refl
+    texts-by (Ok (Some (p, next))) = ap (tag_then p (get_at s b p.key) (get_at s b p.value)) (texts-from next)
+    texts-by (Ok None) = refl
+    texts-by (Err r) = refl
 
-    pub texts-told : (w : TagIter) {r known : RawTagStep} → raw_tag_said s r ≡ raw_tags_from s w → r ≡ known → texts_of known ≡ tags_by s b w
+    pub texts-told : (w : TagIter) {r known : Outcome (Option (RawTag × TagIter))} → numbers_said r ≡ raw_tags_from s w → r ≡ known → texts_of known ≡ tags_by s b w
     texts-told w {known = known} e g =
-        texts-by known ∙ sym (texts-inside w ∙ ap (found_tags (get_at s b)) (says (raw_tag_said s) e g))
+        texts-by known ∙ sym (texts-inside w ∙ ap (found_tags (get_at s b)) (says numbers_said e g))
 
   -- a pair by what was found of its key and its value
   pub looked_up : (p : RawTag) (others : Column Tag) {k v known-key known-value : Outcome (Option Part)} → k ≡ get_at s b p.key → k ≡ known-key → v ≡ get_at s b p.value → v ≡ known-value

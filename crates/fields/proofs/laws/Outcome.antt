@@ -1,8 +1,8 @@
 -- Laws of outcomes: what a mapped outcome was before, what was kept on the way to one that is, and what holds of one if it is kept; and what
 -- a `?` hands up.
-use Rattle.std.specs.Prelude.{Ok, Err, IsErrAnd}
+use Rattle.std.specs.Prelude.{Ok, Err}
 use Prim.Native.Nat.{ℕ}
-use mathlib.Core.Path.{◌≡◌, refl, ap}
+use mathlib.Core.Path.{◌≡◌, refl}
 use mathlib.Core.Bool.{Bool, true, false}
 use native.Mathlib.Omega.{arith}
 use Rattle.protobuf.specs.declared.refusal.Refusal.{Refusal}

@@ -28,8 +28,3 @@ refuted {a} e g = sym e ∙ not-true a g
 
 pub confirmed : {a b : Bool} → a ≡ b → not a ≡ false → b ≡ true
 confirmed {a} e g = sym e ∙ not-false a g
-
--- a test by a difference is the one by a sum
-module _ (n place count : ℕ) where
-  pub none_fit : n < place → false ≡ leb (place + count) n
-  none_fit h = sym (lt-leb (place + count) n (omega arith))

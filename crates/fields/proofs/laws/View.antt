@@ -145,13 +145,14 @@ module _ {A : Type 0} (of : Slots → A) (schema : Schema) (slots : Slots) (k ta
   abbrev tested : Bool → Outcome A
   tested b = each of (each (with slots k) (choose b (Ok (slot_by value (part_by start len))) (Err Granularity)))
 
-  pub int32-kept : kind_of schema k ≡ int32 ∷ [] → InRow int32 k tag → is_int32 value ≡ true → Ok (of (with slots k (slot_by value (part_by start len)))) ≡ each of (store schema slots (field_by tag value start len))
+  -- what is stored where a test of the number says x
+  pub int32-said : kind_of schema k ≡ int32 ∷ [] → InRow int32 k tag → {x : Outcome ℕ} → choose (is_int32 value) (Ok value) (Err Granularity) ≡ x → each (λ n. of (with slots k (slot_by n (part_by start len)))) x ≡ each of (store schema slots (field_by tag value start len))
   unfolding put each
-  int32-kept e i g = sym (ap (each of) (int32-row e i) ∙ ap tested g)
-
-  pub int32-refused : kind_of schema k ≡ int32 ∷ [] → InRow int32 k tag → is_int32 value ≡ false → Err Granularity ≡ each of (store schema slots (field_by tag value start len))
-  unfolding put each
-  int32-refused e i g = sym (ap (each of) (int32-row e i) ∙ ap tested g)
+  int32-said e i g = ap (each (λ n. of (with slots k (slot_by n (part_by start len))))) (sym g) ∙ by (is_int32 value) ∙ sym (ap (each of) (int32-row e i))
+    where
+      by : (b : Bool) → each (λ n. of (with slots k (slot_by n (part_by start len)))) (choose b (Ok value) (Err Granularity)) ≡ tested b
+      by true = refl
+      by false = refl
 
 pub passed_over : {A : Type 0} (of : Slots → A) (rows : Schema) (slots : Slots) (tag value start len : ℕ) → NoneOf Unit rows tag → each of (store rows slots (field_by tag value start len)) ≡ Ok (of slots)
 unfolding each

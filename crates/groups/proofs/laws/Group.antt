@@ -50,9 +50,6 @@ pub record Passing (s : List ℕ) (found : Part) (p : ℕ) : Type 0 where
   pub so : dense_from no_part (message s) ≡ dense_from found (message_from s p)
 
 module _ (s : List ℕ) where
-  pub pass_begins : Passing s no_part 0
-  pass_begins = record { so = refl }
-
   module _ {found : Part} {p : ℕ} (w : Passing s found p) where
     pass_item : {i : Item Field MessageEnd} → field_at s p ≡ i → dense_from no_part (message s) ≡ dense_from found (follow i (message_from s))
     pass_item e = w.so ∙ ap (dense_from found) (message-from s p ∙ ap (λ i. follow i (message_from s)) e)
@@ -131,9 +128,6 @@ pub record Seeking (s : List ℕ) (k from p : ℕ) : Type 0 where
   pub so : first_part k (message_from s from) ≡ first_part k (message_from s p)
 
 module _ (s : List ℕ) (k from : ℕ) where
-  pub seek_begins : Seeking s k from from
-  seek_begins = record { so = refl }
-
   module _ {p : ℕ} (w : Seeking s k from p) where
     seek_item : {i : Item Field MessageEnd} → field_at s p ≡ i → first_part k (message_from s from) ≡ first_part k (follow i (message_from s))
     seek_item e = w.so ∙ ap (first_part k) (message-from s p ∙ ap (λ i. follow i (message_from s)) e)

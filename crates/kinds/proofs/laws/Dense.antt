@@ -1,6 +1,7 @@
 -- The laws of dense nodes that are walked one at a time: the next row, its info and its pairs are the first node that is ahead, and what is
 -- behind each of them is ahead of the next.
 use Rattle.std.specs.Prelude.{Ok, Err}
+use Rattle.std.specs.Prelude as answer
 use Prim.Native.Nat.{ℕ, ◌+◌, ◌≤◌, ◌<◌}
 use mathlib.Core.Path.{◌≡◌, refl, sym, ap, ◌∙◌}
 use mathlib.Core.List.{List}
@@ -10,8 +11,11 @@ use native.Mathlib.Omega.{arith}
 use lib.IntN.{ℤ}
 use lib.Dec.{leb, ltb, eqb}
 use lib.ListN.{length, take, get_or}
-use borrow.Author.Tests.{leb-true, le-leb, ltb-true, eqb-true, eq-eqb, ne_eqb}
+use borrow.Author.Tests.{leb-true, le-leb, ltb-true, eqb-true}
 use Rattle.protobuf.specs.declared.refusal.Refusal.{Refusal}
+use Rattle.protobuf.specs.declared.refusal.Refusal.TheVariants as refusal
+use Rattle.protobuf.specs.contracts.refusal.Refusal.{the_type}
+use denote.Enum.Bare.{sameb}
 use Rattle.protobuf.specs.declared.refusal.Refusal.TheVariants.{Outside}
 use Rattle.protobuf.specs.declared.column.Column as state
 use Rattle.protobuf.specs.Refusal.{number}
@@ -27,6 +31,8 @@ use Rattle.block.specs.Tags.{NodePairs, rest_of, take_pairs}
 use Rattle.columns.specs.InStep.{ahead}
 use Rattle.columns.specs.Inside.{also, column_inside, behind_inside}
 use Rattle.columns.specs.KeysVals.{behind_of}
+use Rattle.columns.specs.Zip.{rows_said}
+use Rattle.columns.specs.declared.zip.RowColumns.{RowColumns}
 use Rattle.columns.proofs.laws.Inside.{also-true}
 use Rattle.columns.proofs.laws.InStep.{stepped}
 use Rattle.columns.proofs.laws.KeysVals.{tag-of-zero, behind-done}
@@ -129,7 +135,7 @@ module _ {A : Type 0} (with : RowInfo → Metadata → Column A) where
 -- ---- a full walk's nodes
 
 module _ (x : Infos) (keyvals : Column ℕ) {rows : Column Row} where
-  pub full-end-stopped : {r : Refusal} → rows ≡ end ended → read_row (next_info x) ≡ Err r → nodes_of rows (some x) keyvals ≡ end (cut r)
+  full-end-stopped : {r : Refusal} → rows ≡ end ended → read_row (next_info x) ≡ Err r → nodes_of rows (some x) keyvals ≡ end (cut r)
   full-end-stopped g h = nodes-end (some x) keyvals g ∙ info-is (λ i others. end ended) (next_info x) h
 
   pub full-ended : {i : RowInfo} {y : Infos} → rows ≡ end ended → read_row (next_info x) ≡ Ok (i, y) → nodes_of rows (some x) keyvals ≡ end ended
@@ -139,8 +145,8 @@ module _ (x : Infos) (keyvals : Column ℕ) {rows : Column Row} where
     abbrev with : RowInfo → Metadata → Column DenseItem
     with i others = behind_pairs (take_pairs keyvals) λ behind. more (node_by a keyvals i) (nodes_of rest others behind)
 
-    pub full-stopped : {r : Refusal} → read_row (next_info x) ≡ Err r → nodes_of rows (some x) keyvals ≡ end (cut r)
-    full-stopped h = nodes-more (some x) keyvals g ∙ info-is with (next_info x) h
+    full-row-stopped : {r : Refusal} → read_row (next_info x) ≡ Err r → nodes_of rows (some x) keyvals ≡ end (cut r)
+    full-row-stopped h = nodes-more (some x) keyvals g ∙ info-is with (next_info x) h
 
     module _ {i : RowInfo} {y : Infos} (h : read_row (next_info x) ≡ Ok (i, y)) where
       to-pairs : nodes_of rows (some x) keyvals ≡ with i (some y)
@@ -153,6 +159,28 @@ module _ (x : Infos) (keyvals : Column ℕ) {rows : Column Row} where
           → nodes_of rows (some x) keyvals ≡ more (node_by a keyvals i) (nodes_of rest (some y) behind)
       full-node k = to-pairs ∙ pairs-kept (take_pairs keyvals) _ k
 
+-- what info refuses is told of a row and of the end alike
+pub full-stopped : (s : List ℕ) (x : Infos) (keyvals : Column ℕ) {rows : Column Row} (o : answer.Option RowColumns) {r : Refusal} → rows ≡ rows_said s (Ok o) → read_row (next_info x) ≡ Err r → nodes_of rows (some x) keyvals ≡ end (cut r)
+full-stopped s x keyvals (answer.Some a) g h = full-row-stopped x keyvals g h
+full-stopped s x keyvals answer.None g h = full-end-stopped x keyvals g h
+
+-- what `==` says of a refusal and 12 is what their numbers say
+pub counts-by_number : (n : Refusal) → sameb the_type n refusal.Counts ≡ eqb (number n) 12
+counts-by_number refusal.BlockTooLong = refl
+counts-by_number refusal.VarintCut = refl
+counts-by_number refusal.VarintLong = refl
+counts-by_number refusal.TagValue = refl
+counts-by_number refusal.WireType = refl
+counts-by_number refusal.PastEnd = refl
+counts-by_number refusal.GroupDepth = refl
+counts-by_number refusal.Granularity = refl
+counts-by_number refusal.SecondColumn = refl
+counts-by_number refusal.SecondInfo = refl
+counts-by_number refusal.SecondDense = refl
+counts-by_number refusal.Counts = refl
+counts-by_number refusal.NoRoom = refl
+counts-by_number refusal.Outside = refl
+
 -- a row that its columns refuse
 module _ (n : Refusal) (x : Infos) where
   abbrev refused_end : Column DenseItem
@@ -161,19 +189,12 @@ module _ (n : Refusal) (x : Infos) where
   by_test : {b : Bool} → eqb (number n) 12 ≡ b → refused_end ≡ choose b (by_info (next_info x) λ i others. end (cut n)) (end (cut n))
   by_test h = ap (λ (b : Bool). choose b (by_info {A = DenseItem} (next_info x) λ i others. end (cut n)) (end (cut n))) h
 
-  pub refused-at_once : (number n ≡ 12 → ⊥) → end (cut n) ≡ refused_end
-  refused-at_once h = sym (by_test (ne_eqb (number n) 12 h))
+  pub refused-at_once : eqb (number n) 12 ≡ false → end (cut n) ≡ refused_end
+  refused-at_once h = sym (by_test h)
 
-  module _ (h : number n ≡ 12) where
+  module _ (h : eqb (number n) 12 ≡ true) where
     pub refused-stopped : {r : Refusal} → read_row (next_info x) ≡ Err r → end (cut r) ≡ refused_end
-    refused-stopped k = sym (by_test (eq-eqb (number n) 12 h) ∙ info-is (λ i others. end (cut n)) (next_info x) k)
+    refused-stopped k = sym (by_test h ∙ info-is (λ i others. end (cut n)) (next_info x) k)
 
     pub refused-behind : {i : RowInfo} {y : Infos} → read_row (next_info x) ≡ Ok (i, y) → end (cut n) ≡ refused_end
-    refused-behind k = sym (by_test (eq-eqb (number n) 12 h) ∙ info-is (λ i others. end (cut n)) (next_info x) k)
-
--- an info row by the values that the machine holds
-pub info-held : {version version' timestamp timestamp' changeset changeset' uid uid' user user' : ℤ} {visible : Bool} (x : Infos) → version ≡ version' → timestamp ≡ timestamp' → changeset ≡ changeset' → uid ≡ uid' → user ≡ user'
-    → ◌≡◌ {A = ReadRow}
-    (Ok (row (some (record { version = version; timestamp = timestamp; changeset = changeset; uid = uid; user = user; visible = visible })), x))
-    (Ok (row (some (record { version = version'; timestamp = timestamp'; changeset = changeset'; uid = uid'; user = user'; visible = visible })), x))
-info-held {visible = visible} x v t c i u = λ k. Ok (row (some (record { version = v k; timestamp = t k; changeset = c k; uid = i k; user = u k; visible = visible })), x)
+    refused-behind k = sym (by_test h ∙ info-is (λ i others. end (cut n)) (next_info x) k)

@@ -24,7 +24,6 @@ use Rattle.message.specs.Message.{Field, MessageEnd, with_payload, with_tag, fie
 use Rattle.message.proofs.laws.Message.{message-from, fields-forward}
 use Rattle.message.proofs.laws.Within.{part-ends}
 use Rattle.fields.specs.declared.part.Part.{Part}
-use Rattle.fields.specs.Outcome as outcome
 use Rattle.fields.specs.Outcome.{Outcome}
 use Rattle.fields.specs.Part.{part_by, no_part, moved}
 use Rattle.fields.specs.Parts.{is_part, parts_of}

@@ -1,5 +1,5 @@
 -- The laws of a dense node whose values are told by words: its row is the next one, and so is the node, where its pairs are passed.
-use Rattle.std.specs.Prelude.{Ok, Err}
+use Rattle.std.specs.Prelude.{Ok, Err, Some, ℤ}
 use Prim.Native.Nat.{ℕ}
 use mathlib.Core.Path.{◌≡◌, refl, sym, ap, ◌∙◌, subst}
 use mathlib.Core.List.{List}
@@ -13,7 +13,7 @@ use Rattle.protobuf.specs.Column.{ColumnEnd, Column, step_at}
 use Rattle.protobuf.specs.Short.{Short}
 use Rattle.fields.specs.Outcome.{Outcome, each}
 use Rattle.block.specs.Tags.{rest_of, take_pairs}
-use Rattle.columns.specs.declared.sums.Sum64.{Sum64}
+use Rattle.columns.specs.declared.sums.Sum.{Sum}
 use Rattle.columns.specs.Inside.{column_inside}
 use Rattle.columns.specs.InStep.{ahead}
 use Rattle.columns.specs.Zip.{moved_sum}
@@ -21,14 +21,13 @@ use Rattle.columns.proofs.laws.Inside.{also-true}
 use Rattle.columns.proofs.laws.Zip.{zipped-more}
 use Rattle.columns.proofs.laws.Short.{sum_word, word_inside}
 use Rattle.kinds.specs.declared.state.DenseColumns.{DenseColumns}
-use Rattle.kinds.specs.declared.dense_nodes.DenseStep.TheVariants as dense
 use Rattle.kinds.specs.declared.dense_nodes.NextNode.{NextNode}
 use Rattle.kinds.specs.Dense.{dense_ahead, dense_said}
 use Rattle.kinds.specs.Said.{is_end, columns_inside, NodeSaid}
 use Rattle.kinds.proofs.laws.Dense.{nodes-more, pairs-refused, pairs-kept}
 
 -- a word tells what a summed column has next
-abbrev pub Word : List ℕ → Sum64 → ℕ → Type 0
+abbrev pub Word : List ℕ → Sum ℤ → ℕ → Type 0
 Word s c word = Short (step_at s c.column.at c.column.end) c.column.at word
 
 module _ (s : List ℕ) (d : DenseColumns) {id lat lon : ℕ} (i : Word s d.rows.ids id) (some_id : id ≡ 0 → ⊥) (y : Word s d.rows.lats lat) (some-lat : lat ≡ 0 → ⊥)
@@ -62,7 +61,7 @@ module _ (s : List ℕ) (d : DenseColumns) {id lat lon : ℕ} (i : Word s d.rows
 -- ---- by what `next_dense` says
 
 module _ (s : List ℕ) (d : DenseColumns) where
-  pub node-found : (next : DenseColumns) → dense_ahead s d ≡ dense_said s d (dense.Node next) → columns_inside s next ≡ true → NodeSaid s d (record { found = 1; columns = next })
+  pub node-found : (next : DenseColumns) → dense_ahead s d ≡ dense_said s d (Ok (Some next)) → columns_inside s next ≡ true → NodeSaid s d (record { found = 1; columns = next })
   node-found next e h = record { node = λ k. sym e; inside = λ k. h; none = λ z. absurd (omega arith) }
 
   pub none_found : (next : DenseColumns) {e : ColumnEnd} → dense_ahead s d ≡ end e → NodeSaid s d (record { found = 0; columns = next })

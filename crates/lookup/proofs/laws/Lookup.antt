@@ -14,6 +14,7 @@ use Rattle.numbers.specs.Choose.{choose}
 use Rattle.numbers.proofs.laws.Choose.{same_test}
 use Rattle.fields.specs.declared.part.Part.{Part}
 use Rattle.wire.specs.declared.record.WireBlock.{WireBlock}
+use Rattle.fields.specs.Outcome.{Outcome, each}
 use Rattle.fields.specs.Part.{is_inside}
 use Rattle.lookup.specs.Lookup.{entry_at, get_at, is_record_inside, group_at}
 
@@ -67,8 +68,14 @@ module _ (s : List ℕ) (r : WireBlock) (index : ℕ) where
       pub get_text : is_inside s p ≡ true → Ok (Some p) ≡ get_at s r index
       get_text h = answers-part (λ p. Ok (Some p)) (Err Outside) s g h ∙ get_entry
 
-      pub get_refused : is_inside s p ≡ false → Err Outside ≡ get_at s r index
-      get_refused h = answers-other (λ p. Ok (Some p)) (Err Outside) s g h ∙ get_entry
+    -- what the entry names, as a text
+    pub get_by : {x : Outcome Part} → answered Ok (Err Outside) s (entry_at s (r.stringtable + 8 * index)) ≡ x → each (λ p. Some p) x ≡ get_at s r index
+    unfolding each
+    get_by e = ap (each (λ p. Some p)) (sym e) ∙ by (is_inside s (entry_at s (r.stringtable + 8 * index))) ∙ get_entry
+      where
+        by : (b : Bool) → each (λ p. Some p) (choose b (Ok (entry_at s (r.stringtable + 8 * index))) (Err Outside)) ≡ choose b (Ok (Some (entry_at s (r.stringtable + 8 * index)))) (Err Outside)
+        by true = refl
+        by false = refl
 
   pub group-outside : is_record_inside s r ≡ false → Err Outside ≡ group_at s r index
   unfolding group_at
@@ -79,7 +86,7 @@ module _ (s : List ℕ) (r : WireBlock) (index : ℕ) where
   group-past-count h = simp (le-ltb _ _ h) (second-fails (is_record_inside s r) _ _)
 
   module _ (inside : is_record_inside s r ≡ true) (below : index < r.groups) where
-    group-entry : answered Ok (Err Outside) s (entry_at s (r.grouptable + 8 * index)) ≡ group_at s r index
+    pub group-entry : answered Ok (Err Outside) s (entry_at s (r.grouptable + 8 * index)) ≡ group_at s r index
     unfolding group_at
     group-entry = simp (inside, lt-ltb _ _ below)
 

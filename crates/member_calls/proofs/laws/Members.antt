@@ -4,7 +4,7 @@ use native.Mathlib.Omega.{arith}
 use mathlib.Core.Path.{◌≡◌, refl, sym, ap, ◌∙◌}
 use mathlib.Core.List.{List}
 use lib.ListN.{length}
-use lib.Dec.{lit<, lit≤}
+use lib.Dec.{lit<}
 use lib.IntN.{pos}
 use lib.Signed.{mag}
 use borrow.Author.Tests.{eq-eqb, ne_eqb}
@@ -15,7 +15,6 @@ use Rattle.protobuf.specs.declared.column.Column.{Column}
 use Rattle.columns.specs.declared.zip.MemberColumns.{MemberColumns}
 use Rattle.columns.specs.InStep.{nowhere}
 use Rattle.elements.specs.declared.members.MemberId.{MemberId}
-use Rattle.elements.specs.declared.members.MemberId.TheVariants as id
 use Rattle.elements.specs.declared.members.RelMember.{RelMember}
 use Rattle.elements.specs.declared.members.RelMemberIter.TheVariants as iter
 use Rattle.answers.specs.Words.{filled, signed_word}
@@ -68,12 +67,3 @@ module _ (slot : List ℕ) (room : 64 ≤ length slot) where
 -- a member's numbers, by the case of its id
 pub item_case : (m : RelMember) {known : MemberId} {role : ℕ} {ws : List ℕ} → ws ≡ member_item_by role known → role ≡ signed_word m.role → m.id ≡ known → ws ≡ member_item m
 item_case m e r k = e ∙ (λ i. member_item_by (r i) (sym k i))
-
-pub item-size : (m : RelMember) → 8 * length (member_item m) ≤ 32
-item-size m = by m.id
-  where
-    by : (i : MemberId) → 8 * length (member_item_by (signed_word m.role) i) ≤ 32
-    by (id.Node i) = lit≤ tt
-    by (id.Way i) = lit≤ tt
-    by (id.Relation i) = lit≤ tt
-    by (id.Unknown kind i) = lit≤ tt

@@ -24,8 +24,8 @@ use Rattle.elements.specs.declared.members.RelMemberIter.TheVariants as iter
 use Rattle.elements.specs.Members.{id_by, member_of, members_from}
 use Rattle.elements.proofs.laws.Members.{member-told}
 use Rattle.answers.specs.Words.{signed_word, filled_at}
-use Rattle.calls.specs.Filling.{ItemPut}
-use Rattle.calls.proofs.laws.Calls.{puts-item}
+use Rattle.calls.specs.Items.{ItemPut}
+use Rattle.calls.proofs.laws.Items.{puts-item}
 use Rattle.member_calls.specs.Members.{member_item_by, member_item}
 
 -- ---- small numbers
@@ -57,7 +57,7 @@ pub record Word (s : List ℕ) (c : Column) (word : ℕ) : Type 0 where
 module _ (s : List ℕ) (b : WireBlock) (h : is_record_inside s b ≡ true) (c : MemberColumns) {role id kind : ℕ} (r : Word s c.roles role) (i : Word s c.memids.column id) (k : Word s c.types kind) where
   pub member-put : (sum : ℤ) {out : List ℕ} {at : ℕ} {after : List ℕ} → role / 16 < 2 ^ 31 → kind / 16 ≤ 2 → sum ≡ wrapping_add 64 c.memids.sum (zigzag 64 (id / 16))
       → after ≡ filled_at out at (role / 16 ∷ kind / 16 ∷ kind / 16 ∷ signed_word sum ∷ [])
-      → ItemPut member_item (members_from s b) (iter.Members c) out at 0 (iter.Members (record { roles = behind_word c.roles role; memids = record { column = behind_word c.memids.column id; sum = sum }; types = behind_word c.types kind })) after
+      → ItemPut (λ member. member) member_item (members_from s b) (iter.Members c) out at (Ok (iter.Members (record { roles = behind_word c.roles role; memids = record { column = behind_word c.memids.column id; sum = sum }; types = behind_word c.types kind }))) after
   member-put sum {out} {at} small known added put =
       let next : MemberColumns = record { roles = behind_word c.roles role; memids = record { column = behind_word c.memids.column id; sum = sum }; types = behind_word c.types kind } in
       let member = Ok (Some ((pos (role / 16), pos (kind / 16)), next)) in

@@ -3,10 +3,9 @@
 use Rattle.std.specs.Prelude.{Ok, Err, Some, None}
 use Prim.Native.Nat.{ℕ, zero, suc, ◌+◌, ◌-◌, ◌≤◌, ◌<◌}
 use mathlib.Core.Path.{◌≡◌, refl, sym, ap, ◌∙◌}
-use mathlib.Core.List.{List}
+use mathlib.Core.List.{List, [], ◌∷◌}
 use native.Mathlib.Omega.{arith}
-use lib.ListN.{length, get_or, set, length-set}
-use lib.Seq.{get_or-set_same, get_or-set_other}
+use lib.ListN.{length}
 use lib.Dec.{leb, eqb}
 use borrow.Author.Tests.{le-leb, lt-leb, leb-true, eq-eqb, ne_eqb}
 use Rattle.protobuf.specs.declared.refusal.Refusal.{Refusal}
@@ -146,50 +145,39 @@ not_close (suc (suc (suc (suc zero)))) h x y = absurd (h refl)
 not_close (suc (suc (suc (suc (suc zero))))) h x y = refl
 not_close (suc (suc (suc (suc (suc (suc n)))))) h x y = refl
 
--- ---- the open groups as a stack: the numbers of the d that are open, the innermost at d − 1
+-- ---- the open groups as a stack: the innermost first
 
-pub unwind : List ℕ → List ℕ → ℕ → ℕ → Read Unit
-unwind s numbers zero i = Ok (tt, i)
-unwind s numbers (suc d) i = and_then (group_by (16 - d) s (get_or numbers d 0) i) λ u q. unwind s numbers d q
+pub unwind : List ℕ → List ℕ → ℕ → Read Unit
+unwind s [] i = Ok (tt, i)
+unwind s (n ∷ ns) i = and_then (group_by (16 - length ns) s n i) λ u q. unwind s ns q
 
-unwind-set : (s numbers : List ℕ) (k v d i : ℕ) → d ≤ k → unwind s (set numbers k v) d i ≡ unwind s numbers d i
-unfolding unwind
-unwind-set s numbers k v zero i h = refl
-unwind-set s numbers k v (suc d) i h =
-    ap (λ (f : ℕ). and_then (group_by (16 - d) s f i) λ u q. unwind s (set numbers k v) d q) (get_or-set_other numbers k d v 0 λ e. omega arith)
-    ∙ and_then-same (group_by (16 - d) s (get_or numbers d 0) i) _ _ (λ u q e. unwind-set s numbers k v d q (omega arith))
-
--- the state of the loop that skips the group of field f from p
-pub record Open (s : List ℕ) (f p : ℕ) (numbers : List ℕ) (top i : ℕ) : Type 0 where
-  pub so : group_by 16 s f p ≡ unwind s numbers (suc top) i
-  pub few : top < 16
-  pub whole : length numbers ≡ 16
+-- the state of the loop that skips the group of field f from p: n is the innermost group
+pub record Skipping (s : List ℕ) (f p : ℕ) (around : List ℕ) (n i : ℕ) : Type 0 where
+  pub so : group_by 16 s f p ≡ unwind s (n ∷ around) i
+  pub few : length around < 16
   pub inside : i ≤ length s
 
-pub opens : (s : List ℕ) (f p : ℕ) (numbers : List ℕ) → get_or numbers 0 0 ≡ f → length numbers ≡ 16 → p ≤ length s → Open s f p numbers 0 p
+pub opens : (s : List ℕ) (f p : ℕ) {around : List ℕ} → around ≡ [] → p ≤ length s → Skipping s f p around f p
 unfolding unwind
-opens s f p numbers e l h = record {
-  so =
-      sym (ap (λ (n : ℕ). and_then (group_by 16 s n p) λ u q. Ok (tt, q)) e ∙ and_then_unit (group_by 16 s f p));
-  few = omega arith;
-  whole = l;
-  inside = h;
-}
+opens s f p e h = rw e record { so = sym (and_then_unit (group_by 16 s f p)); few = omega arith; inside = h }
 
-module _ {s : List ℕ} {f p : ℕ} {numbers : List ℕ} {top i : ℕ} (o : Open s f p numbers top i) where
+module _ {s : List ℕ} {f p : ℕ} {around : List ℕ} {n i : ℕ} (o : Skipping s f p around n i) where
+  abbrev spare : ℕ
+  spare = 15 - length around
+
   -- the innermost group, field by field
-  innermost : group_by 16 s f p ≡ and_then (field_in (group_by (15 - top) s) s (get_or numbers top 0) (group_by (suc (15 - top)) s (get_or numbers top 0)) i) (λ u q. unwind s numbers top q)
+  innermost : group_by 16 s f p ≡ and_then (field_in (group_by spare s) s n (group_by (suc spare) s n) i) (λ u q. unwind s around q)
   unfolding unwind
   innermost =
-      let room : 16 - top ≡ suc (15 - top) = omega arith in
+      let room : 16 - length around ≡ suc spare = omega (arith, o.few) in
       o.so
-      ∙ ap (λ (n : ℕ). and_then (group_by n s (get_or numbers top 0) i) λ u q. unwind s numbers top q) room
-      ∙ ap (λ (r : Read Unit). and_then r λ u q. unwind s numbers top q) (group-fields (15 - top) s (get_or numbers top 0) i)
+      ∙ ap (λ (m : ℕ). and_then (group_by m s n i) λ u q. unwind s around q) room
+      ∙ ap (λ (r : Read Unit). and_then r λ u q. unwind s around q) (group-fields spare s n i)
 
   pub ended : tag_at s i ≡ Ok None → group_by 16 s f p ≡ Err PastEnd
-  ended e = innermost ∙ handed-up _ (field_end s (group_by (15 - top) s) (bounded (15 - top) s) (get_or numbers top 0) _ i (omega (arith, done_at_end s i e)))
+  ended e = innermost ∙ handed-up _ (field_end s (group_by spare s) (bounded spare s) n _ i (omega (arith, done_at_end s i e)))
 
-  pub tag-refused : {n : Refusal} → tag_at s i ≡ Err n → group_by 16 s f p ≡ Err n
+  pub tag-refused : {r : Refusal} → tag_at s i ≡ Err r → group_by 16 s f p ≡ Err r
   unfolding field_in
   tag-refused e =
       let h = untagged-tag s i e in
@@ -197,15 +185,15 @@ module _ {s : List ℕ} {f p : ℕ} {numbers : List ℕ} {top i : ℕ} (o : Open
       innermost ∙ handed-up _ (simp (lt-leb _ _ less) (handed-up _ h.1))
 
 -- a tag that was found in the innermost group
-pub record Found (s : List ℕ) (f p : ℕ) (numbers : List ℕ) (top i : ℕ) (t : Tag) (q : ℕ) : Type 0 where
-  pub groups : Open s f p numbers top i
+pub record Found (s : List ℕ) (f p : ℕ) (around : List ℕ) (n i : ℕ) (t : Tag) (q : ℕ) : Type 0 where
+  pub groups : Skipping s f p around n i
   pub tag : tag_at s i ≡ Ok (Some (t, q))
 
 -- it is what the answer says that reads it
-pub find : {s : List ℕ} {f p : ℕ} {numbers : List ℕ} {top i : ℕ} {t : Tag} {q : ℕ} {r : TagAt} → Open s f p numbers top i → r ≡ tag_at s i → r ≡ Ok (Some (t, q)) → Found s f p numbers top i t q
+pub find : {s : List ℕ} {f p : ℕ} {around : List ℕ} {n i : ℕ} {t : Tag} {q : ℕ} {r : TagAt} → Skipping s f p around n i → r ≡ tag_at s i → r ≡ Ok (Some (t, q)) → Found s f p around n i t q
 find o e g = record { groups = o; tag = sym e ∙ g }
 
-module _ {s : List ℕ} {f p : ℕ} {numbers : List ℕ} {top i : ℕ} {t : Tag} {q : ℕ} (x : Found s f p numbers top i t q) where
+module _ {s : List ℕ} {f p : ℕ} {around : List ℕ} {n i : ℕ} {t : Tag} {q : ℕ} (x : Found s f p around n i t q) where
   pub further : (i < q) × (q ≤ length s)
   further = reached (tag_reach s i) (tagged-tag s i x.tag).1
 
@@ -214,75 +202,68 @@ module _ {s : List ℕ} {f p : ℕ} {numbers : List ℕ} {top i : ℕ} {t : Tag}
   falls = omega (arith, further)
 
   -- what follows the tag, in the innermost group and then in those around it
-  after : group_by 16 s f p ≡ and_then (closes (wire_type t.wire) (choose (eqb t.field (get_or numbers top 0)) (Ok (tt, q)) (Err BadWireType)) (and_then (value_by (group_by (15 - top) s) s (wire_type t.wire) t.field q) λ v r. group_by (suc (15 - top)) s (get_or numbers top 0) r)) (λ u r. unwind s numbers top r)
+  after : group_by 16 s f p ≡ and_then (closes (wire_type t.wire) (choose (eqb t.field n) (Ok (tt, q)) (Err BadWireType)) (and_then (value_by (group_by (15 - length around) s) s (wire_type t.wire) t.field q) λ v r. group_by (suc (15 - length around)) s n r)) (λ u r. unwind s around r)
   unfolding field_in
   after =
       let h = tagged-tag s i x.tag in
       let less : i < length s = omega (arith, h.0) in
-      innermost x.groups ∙ ap (λ (r : Read Unit). and_then r λ u r. unwind s numbers top r) (simp (lt-leb _ _ less) (goes_on _ h.1))
+      innermost x.groups ∙ ap (λ (r : Read Unit). and_then r λ u r. unwind s around r) (simp (lt-leb _ _ less) (goes_on _ h.1))
 
-  own-end : t.wire ≡ 4 → get_or numbers top 0 ≡ t.field → group_by 16 s f p ≡ unwind s numbers top q
+  own-end : t.wire ≡ 4 → n ≡ t.field → group_by 16 s f p ≡ unwind s around q
   unfolding and_then
   own-end w g = after ∙ rw (w, g) (simp (eq-eqb t.field t.field refl))
 
-  pub closes-last : t.wire ≡ 4 → get_or numbers top 0 ≡ t.field → top ≡ 0 → group_by 16 s f p ≡ Ok (tt, q)
+  pub closes-last : t.wire ≡ 4 → n ≡ t.field → around ≡ [] → group_by 16 s f p ≡ Ok (tt, q)
   unfolding unwind
-  closes-last w g z = own-end w g ∙ ap (λ (d : ℕ). unwind s numbers d q) z
+  closes-last w g z = own-end w g ∙ ap (λ (ns : List ℕ). unwind s ns q) z
 
-  pub closes_inner : t.wire ≡ 4 → get_or numbers top 0 ≡ t.field → (top ≡ 0 → ⊥) → Open s f p numbers (top - 1) q
-  closes_inner w g z =
-      let one_less : top ≡ suc (top - 1) = omega (arith, z) in
-      record {
-        so = own-end w g ∙ ap (λ (d : ℕ). unwind s numbers d q) one_less;
-        few = omega arith;
-        whole = x.groups.whole;
-        inside = further.1;
-      }
+  pub closes_inner : {n' : ℕ} {rest : List ℕ} → t.wire ≡ 4 → n ≡ t.field → around ≡ n' ∷ rest → Skipping s f p rest n' q
+  closes_inner w g e = record {
+    so = own-end w g ∙ ap (λ (ns : List ℕ). unwind s ns q) e;
+    few = omega (arith, ap length e, x.groups.few);
+    inside = further.1;
+  }
 
-  pub other-end : t.wire ≡ 4 → (get_or numbers top 0 ≡ t.field → ⊥) → group_by 16 s f p ≡ Err BadWireType
+  pub other-end : t.wire ≡ 4 → (n ≡ t.field → ⊥) → group_by 16 s f p ≡ Err BadWireType
   unfolding and_then
-  other-end w g = after ∙ rw w (simp (ne_eqb t.field (get_or numbers top 0) λ h. g (sym h)))
+  other-end w g = after ∙ rw w (simp (ne_eqb t.field n λ h. g (sym h)))
 
-  pub too_deep : t.wire ≡ 3 → top ≡ 15 → group_by 16 s f p ≡ Err GroupDepth
+  pub too_deep : t.wire ≡ 3 → 15 ≤ length around → group_by 16 s f p ≡ Err GroupDepth
   unfolding and_then value_by group_by
-  too_deep w g = after ∙ rw (w, g)
+  too_deep w h =
+      let none : 15 - length around ≡ 0 = omega arith in
+      after ∙ rw (w, none)
 
-  -- the groups around the one that opens here, in the stack with its number on top
-  around : (next : ℕ) → and_then (group_by (suc (15 - top)) s (get_or numbers top 0) next) (λ u r. unwind s numbers top r) ≡ unwind s (set numbers (top + 1) t.field) (top + 1) next
+  -- the groups around the one that opens here
+  outer : (next : ℕ) → and_then (group_by (suc (15 - length around)) s n next) (λ u r. unwind s around r) ≡ unwind s (n ∷ around) next
   unfolding unwind
-  around next =
-      let room : suc (15 - top) ≡ 16 - top = omega arith in
-      let up : suc top ≡ top + 1 = omega arith in
-      ap (λ (n : ℕ). and_then (group_by n s (get_or numbers top 0) next) λ u r. unwind s numbers top r) room
-      ∙ sym (unwind-set s numbers (top + 1) t.field (suc top) next (omega arith))
-      ∙ ap (λ (d : ℕ). unwind s (set numbers (top + 1) t.field) d next) up
+  outer next =
+      let room : suc (15 - length around) ≡ 16 - length around = omega (arith, x.groups.few) in
+      ap (λ (m : ℕ). and_then (group_by m s n next) λ u r. unwind s around r) room
 
-  pub opens_inner : t.wire ≡ 3 → (top ≡ 15 → ⊥) → Open s f p (set numbers (top + 1) t.field) (top + 1) q
+  pub opens_inner : t.wire ≡ 3 → length around < 15 → Skipping s f p (n ∷ around) t.field q
   unfolding unwind value_by and_then
-  opens_inner w g =
-      let room : 15 - top ≡ 16 - (top + 1) = omega arith in
-      let there : top + 1 < length numbers = omega (arith, g, x.groups.whole) in
+  opens_inner w h =
+      let room : 15 - length around ≡ 16 - length (n ∷ around) = omega arith in
       record {
         so =
             after
-            ∙ rw w (and_then_assoc (and_then (group_by (15 - top) s t.field q) _) _ _ ∙ and_then_assoc (group_by (15 - top) s t.field q) _ _)
-            ∙ and_then-same (group_by (15 - top) s t.field q) _ (λ u next. unwind s (set numbers (top + 1) t.field) (top + 1) next) (λ u next e'. around next)
-            ∙ ap (λ (n : ℕ). and_then (group_by n s t.field q) λ u next. unwind s (set numbers (top + 1) t.field) (top + 1) next) room
-            ∙ ap (λ (n : ℕ). and_then (group_by (16 - (top + 1)) s n q) λ u next. unwind s (set numbers (top + 1) t.field) (top + 1) next) (sym (get_or-set_same numbers (top + 1) t.field 0 there));
-        few = omega (arith, g);
-        whole = length-set numbers (top + 1) t.field ∙ x.groups.whole;
+            ∙ rw w (and_then_assoc (and_then (group_by (15 - length around) s t.field q) _) _ _ ∙ and_then_assoc (group_by (15 - length around) s t.field q) _ _)
+            ∙ and_then-same (group_by (15 - length around) s t.field q) _ (λ u next. unwind s (n ∷ around) next) (λ u next e'. outer next)
+            ∙ ap (λ (m : ℕ). and_then (group_by m s t.field q) λ u next. unwind s (n ∷ around) next) room;
+        few = omega arith;
         inside = further.1;
       }
 
   module _ (w : t.wire ≡ 3 → ⊥) (w' : t.wire ≡ 4 → ⊥) where
-    passing : {x : Read Payload} → value_by (group_by 0 s) s (wire_type t.wire) 0 q ≡ x → group_by 16 s f p ≡ and_then (and_then x λ v r. group_by (suc (15 - top)) s (get_or numbers top 0) r) (λ u r. unwind s numbers top r)
+    passing : {x : Read Payload} → value_by (group_by 0 s) s (wire_type t.wire) 0 q ≡ x → group_by 16 s f p ≡ and_then (and_then x λ v r. group_by (suc (15 - length around)) s n r) (λ u r. unwind s around r)
     passing ev =
         after
         ∙ rw (not_close t.wire w')
-        (ap (λ (x : Read Payload). and_then (and_then x λ v r. group_by (suc (15 - top)) s (get_or numbers top 0) r) (λ u r. unwind s numbers top r))
-        (not_open t.wire w s (group_by (15 - top) s) (group_by 0 s) t.field 0 q ∙ ev))
+        (ap (λ (x : Read Payload). and_then (and_then x λ v r. group_by (suc (15 - length around)) s n r) (λ u r. unwind s around r))
+        (not_open t.wire w s (group_by (15 - length around) s) (group_by 0 s) t.field 0 q ∙ ev))
 
-    pub value-refused : {n : Refusal} → value_by (group_by 0 s) s (wire_type t.wire) 0 q ≡ Err n → group_by 16 s f p ≡ Err n
+    pub value-refused : {r : Refusal} → value_by (group_by 0 s) s (wire_type t.wire) 0 q ≡ Err r → group_by 16 s f p ≡ Err r
     unfolding and_then
     value-refused ev = passing ev
 
@@ -292,16 +273,9 @@ module _ {s : List ℕ} {f p : ℕ} {numbers : List ℕ} {top i : ℕ} {t : Tag}
     pub falls-behind : {v : Payload} {r : ℕ} → value_by (group_by 0 s) s (wire_type t.wire) 0 q ≡ Ok (v, r) → length s - r < length s - i
     falls-behind ev = omega (arith, further, behind ev)
 
-    pub passes : {v : Payload} {r : ℕ} → value_by (group_by 0 s) s (wire_type t.wire) 0 q ≡ Ok (v, r) → Open s f p numbers top r
+    pub passes : {v : Payload} {r : ℕ} → value_by (group_by 0 s) s (wire_type t.wire) 0 q ≡ Ok (v, r) → Skipping s f p around n r
     unfolding and_then unwind
-    passes {v} {r} ev =
-        let room : suc (15 - top) ≡ 16 - top = omega arith in
-        record {
-          so = passing ev ∙ ap (λ (n : ℕ). and_then (group_by n s (get_or numbers top 0) r) λ u r. unwind s numbers top r) room;
-          few = x.groups.few;
-          whole = x.groups.whole;
-          inside = (behind ev).1;
-        }
+    passes {v} {r} ev = record { so = passing ev ∙ outer r; few = x.groups.few; inside = (behind ev).1 }
 
 -- ---- payloads as a whole
 

@@ -113,9 +113,6 @@ module _ (s : List ℕ) (p : ℕ) where
             small = λ h. fits;
           }
 
-  pub no_word : ShortField s p 0
-  no_word = record { says = λ h. absurd (h refl); small = λ h. absurd (h refl) }
-
 -- ---- the next place
 
 module _ (s : List ℕ) where

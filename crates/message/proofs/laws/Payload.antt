@@ -1,7 +1,7 @@
 -- Laws of the payloads that stand outside groups: the ways on from a varint, and that a payload ends within the bytes.
 use Rattle.std.specs.Prelude.{Ok, Err}
 use Prim.Native.Nat.{ℕ, ◌+◌, ◌-◌, ◌≤◌, ◌<◌}
-use mathlib.Core.Path.{◌≡◌, ◌∙◌}
+use mathlib.Core.Path.{◌≡◌, ap, ◌∙◌}
 use mathlib.Core.List.{List}
 use lib.ListN.{length}
 use lib.Dec.{leb}
@@ -10,9 +10,16 @@ use borrow.Author.Tests.{le-leb, lt-leb, leb-true}
 use Rattle.protobuf.specs.declared.refusal.Refusal.{Refusal}
 use Rattle.protobuf.specs.declared.refusal.Refusal.TheVariants.{PastEnd}
 use Rattle.protobuf.specs.Varint.{varint}
+use Rattle.message.specs.declared.payload.Payload.{Payload}
 use Rattle.message.specs.Payload.{payload_of, raw_varint, fixed, counted, length_delimited}
 use Rattle.protobuf.proofs.laws.Read.{goes_on, handed-up, Reach, to, nowhere, reach_and_then, reach_choose, reach_down}
 use Rattle.protobuf.proofs.laws.Varint.{varint_reach}
+
+-- a payload up to the place that is so many bytes behind its start has that many
+pub so_many : {value start len : ℕ} {x : Payload × ℕ} → x ≡ (payload_of value start (start + len - start), start + len) → x ≡ (payload_of value start len, start + len)
+so_many {value} {start} {len} e =
+    let same : start + len - start ≡ len = omega arith in
+    e ∙ ap (λ (n : ℕ). (payload_of value start n, start + len)) same
 
 module _ (s : List ℕ) (p : ℕ) where
   pub raw_refused : {n : Refusal} → varint s p ≡ Err n → raw_varint s p ≡ Err n

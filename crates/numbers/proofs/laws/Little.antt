@@ -1,10 +1,13 @@
 -- Laws of little-endian numbers, over any width: n bytes of a number, read back, are it modulo 256^n; a number of m + n bytes is one of m
 -- bytes and one of n bytes behind it, read or written; and what is written somewhere leaves the other bytes as they were.
-use Rattle.std.proofs.Common.{◌≡◌, ℕ, zero, suc, ◌+◌, ◌-◌, ◌*◌, ◌/◌, ◌%◌, ◌^◌, ◌<◌, ◌≤◌, leb, List, [], ◌∷◌, ◌++◌, length, get_or, take, drop, set, sym, refl, ap, ◌∙◌, subst, append_assoc, add-zero, mod-lt, mul_assoc, mul_comm, suc-add, zero-add, div-one, arith, lit<, length-append, length-drop, take-append-drop, length-take-le, drop-cons, take-take, drop-drop, take_at, take-add, drop_at, w8, Fits, le-leb, leb-true}
+use Rattle.std.proofs.Common.{◌≡◌, ℕ, zero, suc, ◌+◌, ◌-◌, ◌*◌, ◌/◌, ◌%◌, ◌^◌, ◌<◌, ◌≤◌, leb, List, [], ◌∷◌, ◌++◌, length, get_or, take, drop, sym, refl, ap, ◌∙◌, subst, append_assoc, add-zero, mod-lt, mul_assoc, mul_comm, suc-add, zero-add, div-one, arith, lit<, length-append, length-drop, take-append-drop, length-take-le, drop-cons, take-take, drop-drop, take_at, take-add, drop_at, le-leb, leb-true}
 use native.Mathlib.Nat.{mod-one, pow-succ', div-div-eq-div-mul}
 use lib.Arith.{mod-mul, digits_div, digits_mod}
-use lib.Seq.{sets-eq}
+use lib.Seq.{take-length}
 use borrow.Author.Tests.{lt-leb}
+use Rattle.std.specs.Int.{byte_at, byte_worth, bytes_low_first, sum_through}
+use Rattle.std.specs.Prelude.{slice_index, replicate}
+use Rattle.numbers.specs.Choose.{choose}
 use Rattle.numbers.specs.Little.{little, bytes, number_at, written, written_at}
 use Rattle.numbers.proofs.laws.Choose.{choose_elim}
 use Rattle.numbers.proofs.laws.Choose.{drop-take}
@@ -28,6 +31,22 @@ unfolding bytes little
 little-bytes zero v = sym (mod-one v)
 little-bytes (suc n) v = omega (arith, little-bytes n (v / 256), low_byte n v)
 
+-- the machine's bytes of a number, from byte i on
+low_bytes : (i k v : ℕ) → bytes_low_first i k v ≡ bytes k (v / 256 ^ i)
+unfolding bytes
+low_bytes i zero v = refl
+low_bytes i (suc k) v = λ j. byte i j ∷ (low_bytes (suc i) k v ∙ ap (bytes k) higher) j
+  where
+    byte : (i : ℕ) → byte_at i v ≡ v / 256 ^ i % 256
+    byte zero = rw (div-one v) refl
+    byte (suc i) = refl
+
+    higher : v / 256 ^ suc i ≡ v / 256 ^ i / 256
+    higher = rw (pow-succ' 256 i, mul_comm 256 (256 ^ i)) (sym (div-div-eq-div-mul v (256 ^ i) 256))
+
+pub le_bytes : (k v : ℕ) → bytes_low_first 0 k v ≡ bytes k v
+le_bytes k v = low_bytes 0 k v ∙ ap (bytes k) (div-one v)
+
 -- n bytes show a number modulo 256^n alone
 pub bytes-mod : (n v : ℕ) → bytes n (v % 256 ^ n) ≡ bytes n v
 unfolding bytes
@@ -50,6 +69,10 @@ little-append [] b = omega arith
 little-append (x ∷ a) b =
     omega (arith, little-append a b, ap (λ (k : ℕ). k * little b) (pow-succ' 256 (length a)), mul_assoc 256 (256 ^ length a) (little b))
 
+one : (s : List ℕ) (i : ℕ) → i < length s → little (take 1 (drop i s)) ≡ get_or s i 0
+unfolding little
+one s i h = rw (drop-cons s i 0 h) (omega arith)
+
 -- the bytes in the parts of a part
 little-split : (m n : ℕ) (s : List ℕ) (at : ℕ) → at + m ≤ length s → little (take (m + n) (drop at s)) ≡ little (take m (drop at s)) + 256 ^ m * little (take n (drop (at + m) s))
 little-split m n s at h =
@@ -67,35 +90,26 @@ module _ (n : ℕ) (s : List ℕ) (at : ℕ) where
   unfolding number_at
   number-outside h = simp (lt-leb _ _ h)
 
-pub number-split : (m n : ℕ) (s : List ℕ) (at : ℕ) → at + (m + n) ≤ length s → number_at (m + n) s at ≡ number_at m s at + 256 ^ m * number_at n s (at + m)
-number-split m n s at h =
-    rw (number-inside (m + n) s at h, number-inside m s at (omega arith), number-inside n s (at + m) (omega arith)) (little-split m n s at (omega arith))
-
--- four bytes by their weights
-pub little_four : (s : List ℕ) (at : ℕ) → at + 4 ≤ length s → get_or s at 0 + get_or s (at + 1) 0 * 256 + get_or s (at + 2) 0 * 65536 + get_or s (at + 3) 0 * 16777216 ≡ little (take 4 (drop at s))
+-- zeros are the number 0
+pub little-zeros : (n : ℕ) → little (replicate n 0) ≡ 0
 unfolding little
-little_four s at h =
-    let one : (i : ℕ) → i < length s → little (take 1 (drop i s)) ≡ get_or s i 0 = λ i g. rw (drop-cons s i 0 g) (omega arith) in
-    omega (
-      arith,
-      little-split 3 1 s at (omega arith),
-      little-split 2 1 s at (omega arith),
-      little-split 1 1 s at (omega arith),
-      one at (omega arith),
-      one (at + 1) (omega arith),
-      one (at + 2) (omega arith),
-      one (at + 3) (omega arith),
-    )
+little-zeros zero = refl
+little-zeros (suc n) = omega (arith, little-zeros n)
 
-pub number_four : (s : List ℕ) (at : ℕ) → at + 4 ≤ length s → get_or s at 0 + get_or s (at + 1) 0 * 256 + get_or s (at + 2) 0 * 65536 + get_or s (at + 3) 0 * 16777216 ≡ number_at 4 s at
-number_four s at h = little_four s at h ∙ sym (number-inside 4 s at h)
+-- the number by its bytes' worths, as the machine adds them
+little-sum : (k : ℕ) (s : List ℕ) → k < length s → sum_through (λ i. byte_worth i (slice_index s i)) k ≡ little (take (suc k) s)
+little-sum zero s h = sym (one s 0 h)
+little-sum (suc k) s h =
+    let worth = slice_index s (suc k) in
+    let next : suc k + 1 ≡ suc (suc k) = omega arith in
+    let here : 0 + suc k ≡ suc k = omega arith in
+    ap (λ (n : ℕ). n + worth * 256 ^ suc k) (little-sum k s (omega arith))
+    ∙ ap (λ (n : ℕ). little (take (suc k) s) + n) (mul_comm worth (256 ^ suc k) ∙ ap (λ (n : ℕ). 256 ^ suc k * n) (sym (one s (suc k) h) ∙ ap (λ (n : ℕ). little (take 1 (drop n s))) (sym here)))
+    ∙ sym (little-split (suc k) 1 s 0 (omega arith))
+    ∙ ap (λ (n : ℕ). little (take n s)) next
 
--- the bytes of a number are below 256
-abbrev pub FourBytes : List ℕ → ℕ → Type 0
-FourBytes s at = (get_or s at 0 < 256) × (get_or s (at + 1) 0 < 256) × (get_or s (at + 2) 0 < 256) × (get_or s (at + 3) 0 < 256)
-
-pub four_bytes : (s : List ℕ) (at : ℕ) → ((i : ℕ) → Fits w8 (get_or s i 0)) → FourBytes s at
-four_bytes s at small = ((small at).fits, (small (at + 1)).fits, (small (at + 2)).fits, (small (at + 3)).fits)
+pub reads_little : (k : ℕ) (s : List ℕ) → length s ≡ suc k → sum_through (λ i. byte_worth i (slice_index s i)) k ≡ little s
+reads_little k s e = little-sum k s (omega (arith, e)) ∙ ap little (rw (← e) (take-length s))
 
 -- ---- writing
 
@@ -142,9 +156,9 @@ module _ (n : ℕ) (s : List ℕ) (at v : ℕ) where
   unfolding written_at
   writes_inside h = simp (le-leb _ _ h)
 
-  pub writes_outside : length s < at + n → written_at n s at v ≡ s
+  pub writes_bytes : {b : List ℕ} → b ≡ bytes n v → choose (leb (at + n) (length s)) (written s at b) s ≡ written_at n s at v
   unfolding written_at
-  writes_outside h = simp (lt-leb _ _ h)
+  writes_bytes e = ap (λ (l : List ℕ). choose (leb (at + n) (length s)) (written s at l) s) e
 
   pub writes_length : length (written_at n s at v) ≡ length s
   unfolding written_at
@@ -152,26 +166,3 @@ module _ (n : ℕ) (s : List ℕ) (at v : ℕ) where
       choose_elim (λ (l : List ℕ). length l ≡ length s) (leb (at + n) (length s)) _ _
       (λ e. written-length s at (bytes n v) (omega (arith, leb-true (at + n) (length s) e, bytes-length n v)))
       (λ e. refl)
-
--- n bytes behind m bytes
-module _ (m n : ℕ) (s : List ℕ) (at v : ℕ) (h : at + (m + n) ≤ length s) where
-  pub writes_split : written_at n (written_at m s at (v % 256 ^ m)) (at + m) (v / 256 ^ m) ≡ written_at (m + n) s at v
-  writes_split =
-      writes_inside n (written_at m s at (v % 256 ^ m)) (at + m) (v / 256 ^ m) (omega (arith, writes_length m s at (v % 256 ^ m)))
-      ∙ ap (λ (l : List ℕ). written l (at + m) (bytes n (v / 256 ^ m))) (writes_inside m s at (v % 256 ^ m) (omega arith) ∙ ap (written s at) (bytes-mod m v))
-      ∙ ap (λ (k : ℕ). written (written s at (bytes m v)) (at + k) (bytes n (v / 256 ^ m))) (sym (bytes-length m v))
-      ∙ written_twice s at (bytes m v) (bytes n (v / 256 ^ m)) (omega (arith, bytes-length m v, bytes-length n (v / 256 ^ m)))
-      ∙ ap (written s at) (sym (bytes-append m n v))
-      ∙ sym (writes_inside (m + n) s at v h)
-
-  pub halves_written : {t u : List ℕ} → t ≡ written_at m s at (v % 256 ^ m) → u ≡ written_at n t (at + m) (v / 256 ^ m) → u ≡ written_at (m + n) s at v
-  halves_written e g = g ∙ ap (λ (l : List ℕ). written_at n l (at + m) (v / 256 ^ m)) e ∙ writes_split
-
--- four stores, one behind the other
-pub writes_four : (s : List ℕ) (at v : ℕ) → at + 4 ≤ length s → set (set (set (set s at (v % 256)) (at + 1) (v / 256 % 256)) (at + 2) (v / 256 / 256 % 256)) (at + 3) (v / 256 / 256 / 256 % 256) ≡ written_at 4 s at v
-unfolding bytes
-writes_four s at v h =
-    let one : at + 1 ≡ suc at = omega arith in
-    let two : at + 2 ≡ suc (suc at) = omega arith in
-    let three : at + 3 ≡ suc (suc (suc at)) = omega arith in
-    rw (one, two, three) (sets-eq (bytes 4 v) s at h ∙ append_assoc (take at s) _ _ ∙ sym (writes_inside 4 s at v h))

@@ -22,7 +22,7 @@ sel-choose true x y = refl
 sel-choose false x y = refl
 
 module _ (W : Width) where
-  -- m is what the lowest bits of n make, and is held as it stands or complemented twice; its half is complemented once where m is odd
+  -- m is what the lowest bits of n make
   module _ (m n : ℕ) (e : m ≡ n % 2 ^ bits W) where
     low_below : m < 2 ^ bits W
     low_below = rw e (mod-lt n (pow_pos (bits W)))
@@ -32,25 +32,8 @@ module _ (W : Width) where
     reads-twos =
         rw (half_bits W, ← e, sub-below low_below) (sel-choose (ltb m (2 ^ (bits W - 1))) (pos m) (negsuc (2 ^ bits W - suc m)))
 
-    pub complemented_twos : to_z W (2 ^ bits W - 1 - (2 ^ bits W - 1 - m)) ≡ twos (bits W) n
-    complemented_twos =
-        let same : 2 ^ bits W - 1 - (2 ^ bits W - 1 - m) ≡ m = omega (arith, low_below) in ap (to_z W) same ∙ reads-twos
-
-    half_below : m / 2 < 2 ^ hbits W
-    half_below = omega (arith, low_below, pow-bits W)
-
-    pub reads-zigzag : m % 2 ≡ 0 → to_z W (m / 2) ≡ zigzag (bits W) n
-    unfolding zigzag
-    reads-zigzag even = rw (← e) (to_z_pos W (m / 2) half_below ∙ sym (unzigzag-even m even))
-
-    pub complemented_zigzag : (m % 2 ≡ 0 → ⊥) → to_z W (2 ^ bits W - 1 - m / 2) ≡ zigzag (bits W) n
-    unfolding zigzag
-    complemented_zigzag odd =
-        let same : 2 ^ bits W - 1 - m / 2 ≡ 2 ^ bits W - suc (m / 2) = omega arith in
-        rw (← e) (ap (to_z W) same ∙ to_z-neg W (m / 2) half_below ∙ sym (unzigzag_odd m odd))
-
   -- the bits of z that are written are its residue
-  writes_residue : (z : ℤ) → SFits W z → residue (bits W) z ≡ of_z W z
+  pub writes_residue : (z : ℤ) → SFits W z → residue (bits W) z ≡ of_z W z
   unfolding residue
   writes_residue (pos n) f = mod-eq_of_lt (half_full W f.sfits)
   writes_residue (negsuc n) f = ap (λ (k : ℕ). 2 ^ bits W - suc k) (mod-eq_of_lt (half_full W f.sfits))
@@ -60,11 +43,6 @@ module _ (W : Width) where
     pub asks : T (non_neg (to_z W (of_z W z))) × Fits W (nat_abs (to_z W (of_z W z)))
     pub gives : nat_abs (to_z W (of_z W z)) ≡ residue (bits W) z
 
-  -- the same where the bits are complemented before the cast and after it
-  pub record Complemented (z : ℤ) : Type 0 where
-    pub asks : T (non_neg (to_z W (2 ^ bits W - 1 - of_z W z))) × Fits W (nat_abs (to_z W (2 ^ bits W - 1 - of_z W z)))
-    pub gives : 2 ^ bits W - 1 - nat_abs (to_z W (2 ^ bits W - 1 - of_z W z)) ≡ residue (bits W) z
-
   plain-bits : (z : ℤ) → SFits W z → lt_z z (pos 0) ≡ false → Plain z
   plain-bits (pos n) f e =
       record {
@@ -73,23 +51,9 @@ module _ (W : Width) where
       }
   plain-bits (negsuc n) f e = absurd (true≢false e)
 
-  complemented_bits : (z : ℤ) → SFits W z → lt_z z (pos 0) ≡ true → Complemented z
-  complemented_bits (pos n) f e = absurd (not-suc-le-zero (ltb-true n 0 e))
-  complemented_bits (negsuc n) f e =
-      let h : n < 2 ^ bits W = half_full W f.sfits in
-      let back : 2 ^ bits W - 1 - (2 ^ bits W - suc n) ≡ n = omega arith in
-      let reads : to_z W (2 ^ bits W - 1 - (2 ^ bits W - suc n)) ≡ pos n = ap (to_z W) back ∙ to_z_pos W n f.sfits in
-      record {
-        asks = rw reads (tt, record { fits = h });
-        gives = rw reads (omega (arith, writes_residue (negsuc n) f));
-      }
-
   module _ {z : ℤ} (f : SFits W z) where
     pub not_negative : lt_z (to_z W (of_z W z)) (pos 0) ≡ false → Plain z
     not_negative e = plain-bits z f (rw (to_z-of_z W z f) at e)
-
-    pub negative : lt_z (to_z W (of_z W z)) (pos 0) ≡ true → Complemented z
-    negative e = complemented_bits z f (rw (to_z-of_z W z f) at e)
 
   -- a call is passed what is read back from its argument's bits, and returns what is read back from its result's
   pub passed : {x : ℕ} {z : ℤ} → SFits W z → x ≡ residue (bits W) (to_z W (of_z W z)) → x ≡ residue (bits W) z

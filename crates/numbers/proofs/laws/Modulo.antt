@@ -15,11 +15,23 @@ agree_sym p = record { same = sym p.same }
 pub agree_trans : {m a b c : ℕ} → Agree m a b → Agree m b c → Agree m a c
 agree_trans p q = record { same = p.same ∙ q.same }
 
+pub agree_by : {m n a b : ℕ} → m ≡ n → Agree m a b → Agree n a b
+agree_by {a = a} {b} e p = record { same = rw (← e) p.same }
+
 pub agree_mod : (m a : ℕ) → Agree m (a % m) a
 agree_mod m a = record { same = mod-mod a m }
 
 pub agree_more : (m a k : ℕ) → Agree m (a + m * k) a
 agree_more m a k = record { same = add-mul-mod_self_left a m k }
+
+-- numbers that agree modulo m * k agree modulo m
+pub agree_narrow : (m k : ℕ) {a b : ℕ} → Agree (m * k) a b → Agree m a b
+agree_narrow m k {a} {b} p = agree_trans (agree_sym (part a)) (agree_trans (agree_is p.same) (part b))
+  where
+    part : (x : ℕ) → Agree m (x % (m * k)) x
+    part x =
+        agree_trans (agree_sym (agree_more m (x % (m * k)) (k * (x / (m * k)))))
+        (agree_is (ap (λ (n : ℕ). x % (m * k) + n) (sym (mul_assoc m k _)) ∙ mod-add-div x (m * k)))
 
 pub agree_add : {m a b c d : ℕ} → Agree m a b → Agree m c d → Agree m (a + c) (b + d)
 agree_add {m} {a} {b} {c} {d} p q =
@@ -58,10 +70,6 @@ four_products B p x q y =
     mul_assoc p B (q * B) ∙ ap (λ (n : ℕ). p * n) (mul_left_comm B q B) ∙ sym (mul_assoc p q (B * B)) ∙ mul_comm (p * q) (B * B) in
     let cross : y * p * B ≡ p * B * y = mul_assoc y p B ∙ mul_comm y (p * B) in
     omega (arith, mul-add (p * B + x) (q * B) y, add-mul (p * B) x (q * B), add-mul (p * B) x y, add-mul (x * q) (y * p) B, mul_assoc x q B)
-
-pub product-below : (h : ℕ) {x y : ℕ} → x < 2 ^ h → y < 2 ^ h → x * y < 2 ^ (h + h)
-product-below h {x} {y} hx hy =
-    omega (arith, mul-le-mul_left x (le_of_lt hy), mul-lt-mul_of_pos_right {m = x} {n = 2 ^ h} hx (pow_pos h), pow-add 2 h h)
 
 -- of the four products of two numbers' halves, the highest is a multiple of 2^(h + h)
 pub product-of_halves : (h a b : ℕ) {cross : ℕ} → cross ≡ (a % 2 ^ h * (b / 2 ^ h) + b % 2 ^ h * (a / 2 ^ h)) % 2 ^ (h + h) → (cross * 2 ^ h % 2 ^ (h + h) + a % 2 ^ h * (b % 2 ^ h)) % 2 ^ (h + h) ≡ a * b % 2 ^ (h + h)

@@ -1,12 +1,12 @@
 -- Laws of signed numbers over any width w. An integer z is up z − down z, and its residue is the number below 2^w that agrees with that
 -- modulo 2^w.
-use Rattle.std.proofs.Common.{◌≡◌, ℕ, zero, suc, ◌+◌, ◌-◌, ◌*◌, ◌/◌, ◌%◌, ◌^◌, ◌<◌, ◌≤◌, Bool, true, false, eqb, ltb, ℤ, pos, negsuc, ◌+ℤ◌, ◌*ℤ◌, neg_ℤ, sym, refl, ap, ◌∙◌, mod-lt, mod-eq_of_lt, zero-lt-suc, add-mul, pow-suc, mul-suc, mul-add, arith, lit≤, pow_pos, ltb-false, ltb-true, le-ltb, lt-ltb, eq-eqb, ne_eqb, eqb-true}
-use native.Mathlib.Nat.{mod-mod, mod-add-div}
+use Rattle.std.proofs.Common.{◌≡◌, ℕ, zero, suc, ◌+◌, ◌-◌, ◌*◌, ◌/◌, ◌%◌, ◌^◌, ◌<◌, ◌≤◌, Bool, true, false, eqb, ltb, ℤ, pos, negsuc, ◌+ℤ◌, ◌*ℤ◌, neg_ℤ, sym, refl, ap, ◌∙◌, mod-lt, mod-eq_of_lt, zero-lt-suc, add-mul, pow-suc, mul-suc, mul-add, arith, lit≤, pow_pos, pow-add, ltb-false, ltb-true, le-ltb, lt-ltb, eq-eqb, ne_eqb, eqb-true}
+use native.Mathlib.Nat.{mod-add-div}
 use lib.IntN.{sub_ℕ}
 use lib.Pow.{pow-sub-lt}
 use borrow.Author.Tests.{eqb-false}
 use Rattle.numbers.specs.Signed.{signed, twos, unzigzag, zigzag, residue, wrap}
-use Rattle.numbers.proofs.laws.Modulo.{Agree, agree_is, agree_sym, agree_trans, agree_mod, agree_more, agree_add, agree_mul, agree_cancel, agree_below}
+use Rattle.numbers.proofs.laws.Modulo.{Agree, agree_is, agree_sym, agree_trans, agree_by, agree_narrow, agree_mod, agree_more, agree_add, agree_mul, agree_cancel, agree_below}
 use Rattle.numbers.proofs.laws.Choose.{choose_elim}
 
 -- ---- an integer is a difference of two numbers
@@ -119,16 +119,6 @@ module _ (w : ℕ) where
   unfolding wrap
   residue-wrap z = residue-signed (residue-below z)
 
-  -- x and y are the bits of a and b: those of the sum and of the product, read as signed
-  module _ {x y : ℕ} (a b : ℤ) (p : x ≡ residue w a) (q : y ≡ residue w b) where
-    pub twos-sum : {s : ℕ} → s ≡ (x + y) % 2 ^ w → twos w s ≡ wrap w (a +ℤ b)
-    unfolding twos wrap
-    twos-sum e = rw (e, mod-mod (x + y) (2 ^ w), p, q, residue-add a b)
-
-    pub twos-product : {s : ℕ} → s ≡ (x * y) % 2 ^ w → twos w s ≡ wrap w (a *ℤ b)
-    unfolding twos wrap
-    twos-product e = rw (e, mod-mod (x * y) (2 ^ w), p, q, residue-mul a b)
-
   -- a summand may be wrapped before the sum is
   pub wrap-add-wrap : (a b : ℤ) → wrap w (a +ℤ wrap w b) ≡ wrap w (a +ℤ b)
   unfolding wrap
@@ -142,6 +132,10 @@ module _ (w : ℕ) where
     pub bits : ℕ
     pub below : bits < 2 ^ w
     pub is : z ≡ signed w bits
+
+  pub wrap-in_range : {z : ℤ} → InRange z → wrap w z ≡ z
+  unfolding wrap
+  wrap-in_range p = ap (signed w) (ap (residue w) p.is ∙ residue-signed p.below) ∙ sym p.is
 
   pub residue-one-to-one : {d e : ℤ} → InRange d → InRange e → residue w d ≡ residue w e → d ≡ e
   residue-one-to-one d e p =
@@ -211,3 +205,46 @@ unzigzag_in_range w n h = by (eqb (n % 2) 0) refl
 pub zigzag_in_range : (w n : ℕ) → InRange w (zigzag w n)
 unfolding zigzag
 zigzag_in_range w n = unzigzag_in_range w (n % 2 ^ w) (mod-lt n (pow_pos w))
+
+pub twos-zero : (w : ℕ) → twos w 0 ≡ pos 0
+unfolding twos
+twos-zero w = ap (signed w) (mod-eq_of_lt (pow_pos w)) ∙ signed_low w (pow_pos (w - 1))
+
+-- ---- fewer bits of more
+
+module _ {w v : ℕ} (h : w ≤ v) where
+  residue_narrow : (z : ℤ) → residue v z % 2 ^ w ≡ residue w z
+  residue_narrow z =
+      let more : 2 ^ v ≡ 2 ^ w * 2 ^ (v - w) = let there : v ≡ w + (v - w) = omega (arith, h) in ap (λ (n : ℕ). 2 ^ n) there ∙ pow-add 2 w (v - w) in
+      let low : Agree (2 ^ w) (residue v z + down z) (up z) = agree_narrow (2 ^ w) (2 ^ (v - w)) (agree_by more (residue_agrees v z)) in
+      sym (residue-is w z 0 (mod-lt _ (pow_pos w))
+      (agree_trans (agree_add (agree_mod _ _) (agree_is refl)) (agree_trans (agree_is (omega arith)) (agree_trans low (agree_is (omega arith))))))
+
+  -- the lowest w of the v bits of z, read as signed
+  pub twos-residue : (z : ℤ) → twos w (residue v z) ≡ wrap w z
+  unfolding twos wrap
+  twos-residue z = ap (signed w) (residue_narrow z)
+
+  -- x and y are the v bits of a and b: those of the sum and of the product
+  module _ {x y s : ℕ} (a b : ℤ) (p : x ≡ residue v a) (q : y ≡ residue v b) where
+    pub twos-sum : s ≡ (x + y) % 2 ^ v → twos w s ≡ wrap w (a +ℤ b)
+    twos-sum e = rw (e, p, q, ← residue-add v a b) (twos-residue (a +ℤ b))
+
+    pub twos-product : s ≡ (x * y) % 2 ^ v → twos w s ≡ wrap w (a *ℤ b)
+    twos-product e = rw (e, p, q, ← residue-mul v a b) (twos-residue (a *ℤ b))
+
+  -- the v bits of what zigzag spells by m: half of m, and where m is odd the complement of that
+  module _ {m : ℕ} (n : ℕ) (e : m ≡ n % 2 ^ w) (small : m < 2 ^ v) where
+    zigzag-residue : {r : ℕ} → residue v (unzigzag m) ≡ r → twos w r ≡ zigzag w n
+    unfolding zigzag
+    zigzag-residue is = rw (← is) (twos-residue (unzigzag m) ∙ wrap-in_range w (unzigzag_in_range w m (rw e (mod-lt n (pow_pos w)))) ∙ ap unzigzag e)
+
+    pub twos-half : m % 2 ≡ 0 → twos w (m / 2) ≡ zigzag w n
+    unfolding residue
+    twos-half even = zigzag-residue (rw (unzigzag-even m even) (mod-eq_of_lt (omega (arith, small))))
+
+    pub twos-complement : (m % 2 ≡ 0 → ⊥) → twos w (2 ^ v - 1 - m / 2) ≡ zigzag w n
+    unfolding residue
+    twos-complement odd =
+        let half : m / 2 < 2 ^ v = omega (arith, small) in
+        zigzag-residue (rw (unzigzag_odd m odd, mod-eq_of_lt half) (omega arith))

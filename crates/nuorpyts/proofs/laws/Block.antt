@@ -1,17 +1,13 @@
 -- Laws of strings and groups through the record in a slice.
 use Rattle.std.specs.Prelude.{Ok, Err, Option, Some, None}
 use Prim.Native.Nat.{ℕ, ◌≤◌, ◌<◌}
-use mathlib.Core.Path.{◌≡◌, refl, sym, ap, ◌∙◌}
+use mathlib.Core.Path.{◌≡◌, refl, ◌∙◌}
 use mathlib.Core.List.{List}
 use lib.ListN.{length}
 use lib.Dec.{leb}
-use Rattle.protobuf.specs.declared.refusal.Refusal.{Refusal}
 use Rattle.numbers.specs.Choose.{choose}
-use Rattle.wire.specs.declared.record.WireBlock.{WireBlock}
-use Rattle.fields.specs.Outcome.{onward, Outcome}
+use Rattle.fields.specs.Outcome.{Outcome}
 use Rattle.fields.specs.declared.part.Part.{Part}
-use Rattle.lookup.specs.Lookup.{group_at}
-use Rattle.answers.specs.Record.{record_in}
 use Rattle.answers.specs.Group.{range_words}
 use Rattle.answers.proofs.laws.Words.{put-short}
 use Rattle.answers.proofs.laws.Codes.{too_short, long_enough}

@@ -38,7 +38,7 @@ use Rattle.elements.specs.Members.{members_start, members_by}
 use Rattle.elements.specs.Element.{item_of}
 use Rattle.walk.specs.Shows.{Streams, all-out, one_more, TagShows, MemberShows, tags_of, references_of, members_of, Shows}
 use Rattle.answers.specs.Words.{words, flag, signed_word}
-use Rattle.layouts.specs.Views.{parts_words}
+use Rattle.answers.specs.Views.{parts_words}
 use Rattle.layouts.specs.Element.{node_info_words, element_words}
 use Rattle.start_calls.specs.Starts.{refs_start_in, tags_start_in, members_start_in}
 use Rattle.start_calls.proofs.laws.Elements.{ElementHeld, refs-started, tags-started, members-started}

@@ -40,4 +40,4 @@ left b out n {s} {rec} code₀ answer₀ after₀ held = by (scanned b n) (leb 7
 
 module _ (κs : Lfts 2) (a : Dens κs kinds.ps) (e : AtExit (ended_of 2 kinds.ps kinds.r) κs) where
   pub scan-left : Learnt κs a 0 e → Scanned-in e.0.now e.1.1.0.now a.0.now a.1.0
-  scan-left learnt = left a.0.now a.1.1.0.now a.1.0 learnt.0 learnt.1.0 learnt.1.1.0 learnt.1.1.1.1
+  scan-left learnt = left a.0.now a.1.1.0.now a.1.0 learnt.0.code learnt.0.after learnt.1.0 learnt.1.1.1

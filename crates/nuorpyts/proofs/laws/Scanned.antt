@@ -26,9 +26,9 @@ use Rattle.lookup.proofs.laws.Scanned.{scanned_get, scanned-group}
 use Rattle.elements.specs.Members.{role_at, role_of}
 use Rattle.answers.specs.Record.{record_words, record_in}
 use Rattle.answers.specs.Group.{range_words}
-use Rattle.answers.specs.Codes.{answer_code, answer_after}
+use Rattle.answers.specs.Codes.{code_of, Answers}
 use Rattle.answers.proofs.laws.Words.{words-length, same-written}
-use Rattle.answers.proofs.laws.Codes.{Answered}
+use Rattle.answers.proofs.laws.Codes.{answer-put}
 use Rattle.answers.proofs.laws.Record.{Held, record-back}
 use Rattle.nuorpyts.specs.Block.{Scanned-in, get_in, got_code, got_after, group_in}
 use Rattle.nuorpyts.specs.Walks.{role_in, own_role}
@@ -123,15 +123,15 @@ module _ (s rec out : List ℕ) (index : ℕ) where
   abbrev pub GroupClauses : ℕ → List ℕ → Type 0
   GroupClauses code after =
       let x = group_in s rec index in
-      (code ≡ answer_code 2 out x) × ((after ≡ answer_after range_words out x) × ((b : List ℕ) (n : ℕ) → Scanned-in s rec b n → Answered 2 range_words out code after (group_of (take n b) index)))
+      Answers 2 range_words out x code after × ((b : List ℕ) (n : ℕ) → Scanned-in s rec b n → Answers 2 range_words out (group_of (take n b) index) code after)
 
-  pub group_clauses : length s < 2 ^ 64 → {code : ℕ} {after : List ℕ} → Answered 2 range_words out code after (group_in s rec index) → GroupClauses code after
-  group_clauses fits {code} {after} e = (e.0, (e.1, λ b n h. subst (λ (x : Outcome Part). Answered 2 range_words out code after x) (own-group fits h index) e))
+  pub group_clauses : length s < 2 ^ 64 → {code : ℕ} {after : List ℕ} → Answers 2 range_words out (group_in s rec index) code after → GroupClauses code after
+  group_clauses fits e = (e, λ b n h. answer-put e (own-group fits h index))
 
 -- ---- 13
 
 -- one refusal alone has this number
-pub thirteen : (r : Refusal) → number r ≡ 13 → r ≡ NoRoom
+thirteen : (r : Refusal) → number r ≡ 13 → r ≡ NoRoom
 thirteen BlockTooLong e = absurd (omega arith)
 thirteen VarintCut e = absurd (omega arith)
 thirteen VarintLong e = absurd (omega arith)
@@ -146,3 +146,7 @@ thirteen SecondDense e = absurd (omega arith)
 thirteen Counts e = absurd (omega arith)
 thirteen NoRoom e = refl
 thirteen Outside e = absurd (omega arith)
+
+pub no_room : {A : Type 0} (x : Outcome A) → code_of x ≡ 13 → x ≡ Err NoRoom
+no_room (Ok a) e = absurd (omega arith)
+no_room (Err r) e = ap Err (thirteen r e)

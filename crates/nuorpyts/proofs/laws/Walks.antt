@@ -1,39 +1,13 @@
 -- Laws of positions through the record in a slice.
-use Rattle.std.specs.Prelude.{Ok, Err, Option}
 use Prim.Native.Nat.{ℕ, ◌^◌, ◌<◌}
-use mathlib.Core.Path.{◌≡◌, refl, ap, ◌∙◌}
-use mathlib.Core.List.{List, [], ◌∷◌}
-use mathlib.Core.Bool.{true, false}
-use lib.ListN.{length}
+use mathlib.Core.Path.{◌≡◌, ap, ◌∙◌}
 use lib.IntN.{ℤ}
 use lib.Signed.{mag}
 use mir.Syntax.{w64}
 use mir.Val.{to_z, of_z}
-use Rattle.numbers.specs.Signed.{twos, is_int32, residue, nanodegrees_of}
+use Rattle.numbers.specs.Signed.{twos, residue, nanodegrees_of}
 use Rattle.numbers.proofs.laws.Machine.{returned}
-use Rattle.protobuf.specs.declared.refusal.Refusal.{Refusal}
-use Rattle.protobuf.specs.declared.refusal.Refusal.TheVariants.{Outside}
-use Rattle.wire.specs.declared.record.WireBlock.{WireBlock}
-use Rattle.fields.specs.Outcome.{Outcome, onward}
-use Rattle.fields.specs.declared.part.Part.{Part}
-use Rattle.elements.specs.Members.{role_at}
 use Rattle.answers.specs.Words.{signed_word}
-use Rattle.answers.specs.Codes.{answer_after}
-use Rattle.answers.specs.Record.{record_in}
-use Rattle.answers.proofs.laws.Words.{put-short}
-use Rattle.answers.proofs.laws.Codes.{Answered, too_short}
-use Rattle.nuorpyts.specs.Walks.{role_in, nano_words, nano_in}
-
--- ---- positions
-
-module _ (rec : List ℕ) (lat lon : ℕ) where
-  pub nano_short : (out : List ℕ) → length out < 16 → Answered 2 (λ ws. ws) out 14 out (nano_in rec lat lon)
-  unfolding onward
-  nano_short out h = (too_short 16 out _ 14 h, untouched (record_in rec))
-    where
-      untouched : (x : Outcome WireBlock) → out ≡ answer_after (λ ws. ws) out (onward x λ r. Ok (nano_words r lat lon))
-      untouched (Ok r) = put-short out (nano_words r lat lon) h
-      untouched (Err n) = refl
 
 -- the bits of a position whose raw number was read of bits, as the three calls give them
 pub position-bits : (offset granularity : ℤ) (n : ℕ) {raw position : ℤ} {word : ℕ} → mag raw < 2 ^ 63 → raw ≡ twos 64 n → mag position < 2 ^ 63

@@ -8,9 +8,6 @@ use Rattle.protobuf.specs.declared.refusal.Refusal.{Refusal}
 use Rattle.protobuf.specs.Column.{Column}
 use Rattle.fields.specs.Outcome.{Outcome, onward, each}
 use Rattle.fields.proofs.laws.Outcome.{each-refused, each-kept}
-use Rattle.protobuf.specs.declared.column.Column as state
-use Rattle.fields.specs.declared.part.Part.{Part}
-use Rattle.columns.specs.InStep.{ahead, start_of}
 use Rattle.block.specs.Tags.{Pair, rest_of, take_pairs, dense_pairs}
 use Rattle.block.specs.Check.{passed, check_pairs}
 
@@ -35,7 +32,3 @@ module _ (n i : ℕ) (c : Column ℕ) where
   unfolding dense_pairs onward
   node-refused h e =
       let one_left : n - i ≡ suc (n - (i + 1)) = omega arith in rw (one_left, each-refused rest_of (take_pairs c) e)
-
--- keys_vals from the start of a part
-pub pairs_start : (s : List ℕ) (n : ℕ) (part : Part) {column : state.Column} {x : Outcome Unit} → x ≡ check_pairs n (ahead s column) → column ≡ start_of part → x ≡ check_pairs n (ahead s (start_of part))
-pairs_start s n part e g = e ∙ ap (λ (c : state.Column). check_pairs n (ahead s c)) g

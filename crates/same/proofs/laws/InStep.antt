@@ -10,18 +10,7 @@ use Rattle.walk.specs.Same.{and_same, same_stream}
 pub record InStep {A B : Type 0} (same : A → B → Outcome Bool) (c₀ : Column A) (d₀ : Column B) (c : Column A) (d : Column B) : Type 0 where
   pub so : same_stream same c₀ d₀ ≡ same_stream same c d
 
-pub set_out : {A B : Type 0} (same : A → B → Outcome Bool) (c : Column A) (d : Column B) → InStep same c d c d
-set_out same c d = record { so = refl }
-
 module _ {A B : Type 0} {same : A → B → Outcome Bool} {c₀ c : Column A} {d₀ d : Column B} (w : InStep same c₀ d₀ c d) where
-  -- what two answers say is what was left
-  pub both_step : {x : Column A} {y : Column B} → x ≡ c → y ≡ d → InStep same c₀ d₀ x y
-  both_step e g = record { so = w.so ∙ sym (λ i. same_stream same (e i) (g i)) }
-
-  -- where what they say compares as others do, those are left
-  pub both-on : {x x' : Column A} {y y' : Column B} → x ≡ c → y ≡ d → same_stream same x y ≡ same_stream same x' y' → InStep same c₀ d₀ x' y'
-  both-on e g k = record { so = (both_step e g).so ∙ k }
-
   -- once it is known which answers they are
   pub both_say : {x : Column A} {y : Column B} → c ≡ x → d ≡ y → same_stream same x y ≡ same_stream same c₀ d₀
   both_say e g = sym (w.so ∙ λ i. same_stream same (e i) (g i))

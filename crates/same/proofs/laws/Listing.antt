@@ -1,16 +1,17 @@
 -- Two checks, and the driver's clauses, by the first: on two accepted blocks both checks pass, so that what is said is what the walks in step
 -- say, which decides whether the listings are equal, and so whether the contents are.
-use Rattle.std.specs.Prelude.{Ok, Err}
+use Rattle.std.specs.Prelude.{Err}
 use Prim.Native.Nat.{ℕ}
-use mathlib.Core.Path.{◌≡◌, sym, ap, ◌∙◌, subst}
+use mathlib.Core.Path.{◌≡◌, refl, sym, ap, ◌∙◌, subst}
 use mathlib.Core.List.{List}
 use mathlib.Core.Bool.{Bool, true, false}
-use native.Mathlib.Omega.{arith}
+use denote.Enum.Bare.{sameb}
 use lib.Dec.{eqb}
 use lib.ListN.{take}
-use borrow.Author.Tests.{eq-eqb, ne_eqb}
 use Rattle.protobuf.specs.declared.refusal.Refusal.{Refusal}
 use Rattle.protobuf.specs.declared.refusal.Refusal.TheVariants.{Outside}
+use Rattle.protobuf.specs.declared.refusal.Refusal.TheVariants as refusal
+use Rattle.protobuf.specs.contracts.refusal.Refusal.{the_type}
 use Rattle.protobuf.specs.Refusal.{number}
 use Rattle.numbers.specs.Choose.{choose}
 use Rattle.fields.specs.Outcome.{Outcome}
@@ -29,15 +30,32 @@ use Rattle.same.specs.Listing.{both_checked, same_listing}
 
 -- ---- two checks
 
+-- what `==` says of a refusal and 14 is what their numbers say
+outside-by_number : (n : Refusal) → sameb the_type n Outside ≡ eqb (number n) (number Outside)
+outside-by_number refusal.BlockTooLong = refl
+outside-by_number refusal.VarintCut = refl
+outside-by_number refusal.VarintLong = refl
+outside-by_number refusal.TagValue = refl
+outside-by_number refusal.WireType = refl
+outside-by_number refusal.PastEnd = refl
+outside-by_number refusal.GroupDepth = refl
+outside-by_number refusal.Granularity = refl
+outside-by_number refusal.SecondColumn = refl
+outside-by_number refusal.SecondInfo = refl
+outside-by_number refusal.SecondDense = refl
+outside-by_number refusal.Counts = refl
+outside-by_number refusal.NoRoom = refl
+outside-by_number refusal.Outside = refl
+
 module _ {r n : Refusal} {x y : Outcome Unit} (e : x ≡ Err r) (g : y ≡ Err n) where
   two-refused : both_checked x y ≡ choose (eqb (number n) (number Outside)) (Err n) (Err r)
   two-refused = λ i. both_checked (e i) (g i)
 
-  pub second-outside : number n ≡ number Outside → Err n ≡ both_checked x y
-  second-outside h = sym (two-refused ∙ ap (λ (b : Bool). choose b (Err n) (Err r)) (eq-eqb _ _ h))
+  pub second-outside : sameb the_type n Outside ≡ true → Err n ≡ both_checked x y
+  second-outside h = sym (two-refused ∙ ap (λ (b : Bool). choose b (Err n) (Err r)) (sym (outside-by_number n) ∙ h))
 
-  pub first-before : (number n ≡ number Outside → ⊥) → x ≡ both_checked x y
-  first-before h = e ∙ sym (two-refused ∙ ap (λ (b : Bool). choose b (Err n) (Err r)) (ne_eqb _ _ h))
+  pub first-before : sameb the_type n Outside ≡ false → x ≡ both_checked x y
+  first-before h = e ∙ sym (two-refused ∙ ap (λ (b : Bool). choose b (Err n) (Err r)) (sym (outside-by_number n) ∙ h))
 
 -- ---- what is said of two accepted blocks
 

@@ -1,18 +1,14 @@
 -- Two members: their ids by the numbers of each, and their roles before their ids.
-use Rattle.std.specs.Prelude.{Ok, Err, Option, Some, None, is_some}
-use Prim.Native.Nat.{ℕ, ◌^◌, ◌<◌}
+use Rattle.std.specs.Prelude.{Ok, Err, Option, Some, None}
+use Prim.Native.Nat.{ℕ}
 use mathlib.Core.Path.{◌≡◌, refl, sym, ◌∙◌}
 use mathlib.Core.List.{List}
 use mathlib.Core.Option as math
-use mathlib.Core.Bool.{Bool, true, false, not}
-use native.Mathlib.Omega.{arith}
+use mathlib.Core.Bool.{Bool, true, false, ◌&&◌}
+use Rattle.std.proofs.Common.{int_eq}
+use Rattle.elements.specs.contracts.members.MemberIdPartialEq.TheImpl.{ghosts}
+use Rattle.same.proofs.laws.Values.{numbers-same}
 use Rattle.protobuf.specs.declared.refusal.Refusal.{Refusal}
-use lib.Dec.{eqb}
-use lib.IntN.{ℤ, pos}
-use lib.Signed.{mag}
-use mir.Syntax.{w32, w64}
-use mir.Val.{hbits, to_z, of_z}
-use Rattle.numbers.proofs.laws.Machine.{returned}
 use Rattle.fields.specs.Outcome.{Outcome, onward}
 use Rattle.fields.specs.declared.part.Part.{Part}
 use Rattle.block.specs.Strings.{Text}
@@ -21,42 +17,32 @@ use Rattle.elements.specs.declared.members.MemberId.{MemberId}
 use Rattle.elements.specs.declared.members.MemberId.TheVariants as id
 use Rattle.walk.specs.Shows.{text_of, id_of}
 use Rattle.walk.specs.Same.{and_same, same_number, same_role, same_member_id}
-use Rattle.same.specs.declared.members.MemberKey.{MemberKey}
-use Rattle.same.specs.Members.{key_of, same_roles}
+use Rattle.same.specs.Members.{same_roles}
 
 -- ---- ids
 
--- the numbers that are held as their bits
-module _ (case : ℕ) where
-  pub held-key : (k i : ℤ) → mag k < 2 ^ hbits w32 → mag i < 2 ^ hbits w64 → ◌≡◌ {A = MemberKey} (record { case = case; kind = to_z w32 (of_z w32 k); id = to_z w64 (of_z w64 i) }) (record { case = case; kind = k; id = i })
-  held-key k i f g = λ j. record { case = case; kind = returned w32 {r = k} f refl j; id = returned w64 {r = i} g refl j }
+both : (t : Bool) {u v : Bool} → u ≡ v → (t && u) ≡ also t v
+both true e = e
+both false e = refl
 
-  pub plain-key : (i : ℤ) → mag i < 2 ^ hbits w64 → ◌≡◌ {A = MemberKey} (record { case = case; kind = pos 0; id = to_z w64 (of_z w64 i) }) (record { case = case; kind = pos 0; id = i })
-  plain-key i g = λ j. record { case = case; kind = pos 0; id = returned w64 {r = i} g refl j }
-
-abbrev same_keys : MemberKey → MemberKey → Bool
-same_keys k l = also (eqb k.case l.case) (also (same_number k.kind l.kind) (same_number k.id l.id))
-
-by-keys : (x y : MemberId) → same_keys (key_of x) (key_of y) ≡ same_member_id (id_of x) (id_of y)
-by-keys (id.Node i) (id.Node j) = refl
-by-keys (id.Node i) (id.Way j) = refl
-by-keys (id.Node i) (id.Relation j) = refl
-by-keys (id.Node i) (id.Unknown l j) = refl
-by-keys (id.Way i) (id.Node j) = refl
-by-keys (id.Way i) (id.Way j) = refl
-by-keys (id.Way i) (id.Relation j) = refl
-by-keys (id.Way i) (id.Unknown l j) = refl
-by-keys (id.Relation i) (id.Node j) = refl
-by-keys (id.Relation i) (id.Way j) = refl
-by-keys (id.Relation i) (id.Relation j) = refl
-by-keys (id.Relation i) (id.Unknown l j) = refl
-by-keys (id.Unknown k i) (id.Node j) = refl
-by-keys (id.Unknown k i) (id.Way j) = refl
-by-keys (id.Unknown k i) (id.Relation j) = refl
-by-keys (id.Unknown k i) (id.Unknown l j) = refl
-
-pub keys-same : {k l : MemberKey} (x y : MemberId) → k ≡ key_of x → l ≡ key_of y → same_keys k l ≡ same_member_id (id_of x) (id_of y)
-keys-same x y e g = (λ j. same_keys (e j) (g j)) ∙ by-keys x y
+-- what `==` says of two
+pub ids-same : (x y : MemberId) → ghosts.eq x y ≡ same_member_id (id_of x) (id_of y)
+ids-same (id.Node i) (id.Node j) = numbers-same i j
+ids-same (id.Node i) (id.Way j) = refl
+ids-same (id.Node i) (id.Relation j) = refl
+ids-same (id.Node i) (id.Unknown l j) = refl
+ids-same (id.Way i) (id.Node j) = refl
+ids-same (id.Way i) (id.Way j) = numbers-same i j
+ids-same (id.Way i) (id.Relation j) = refl
+ids-same (id.Way i) (id.Unknown l j) = refl
+ids-same (id.Relation i) (id.Node j) = refl
+ids-same (id.Relation i) (id.Way j) = refl
+ids-same (id.Relation i) (id.Relation j) = numbers-same i j
+ids-same (id.Relation i) (id.Unknown l j) = refl
+ids-same (id.Unknown k i) (id.Node j) = refl
+ids-same (id.Unknown k i) (id.Way j) = refl
+ids-same (id.Unknown k i) (id.Relation j) = refl
+ids-same (id.Unknown k i) (id.Unknown l j) = both (int_eq k l) (numbers-same i j) ∙ λ n. also (numbers-same k l n) (same_number i j)
 
 -- ---- roles, and then ids
 
@@ -69,14 +55,6 @@ pub second_refused : (s t : List ℕ) (o : Option Part) {n : Refusal} → Err n 
 unfolding onward
 second_refused s t None = refl
 second_refused s t (Some p) = refl
-
--- where the first has none it is the same exactly where the second has none
-pub none_beside : (s t : List ℕ) (o : Option Part) (b : Bool) → is_some o ≡ not b → Ok b ≡ same_roles (text_of s (Ok None)) (text_of t (Ok o))
-unfolding onward
-none_beside s t None true e = refl
-none_beside s t None false e = absurd (let z : ◌≡◌ {A = ℕ} 0 1 = cc in omega arith)
-none_beside s t (Some p) true e = absurd (let z : ◌≡◌ {A = ℕ} 0 1 = cc in omega arith)
-none_beside s t (Some p) false e = refl
 
 pub roles-first : (x y : Outcome (math.Option Text)) (same : Bool) → and_same (same_roles x y) (Ok same) ≡ onward x λ t. onward y λ u. Ok (also (same_role t u) same)
 unfolding onward

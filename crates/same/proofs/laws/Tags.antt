@@ -1,7 +1,7 @@
 -- The tags that a step hands out have texts that stand inside: a lookup gave them.
 use Rattle.std.specs.Prelude.{Option, Some, None, Ok, Err}
 use Prim.Native.Nat.{ℕ}
-use mathlib.Core.Path.{◌≡◌, refl, subst}
+use mathlib.Core.Path.{◌≡◌, refl, sym, subst}
 use mathlib.Core.List.{List}
 use mathlib.Core.Bool.{Bool, true, false}
 use native.Mathlib.Omega.{arith}
@@ -17,7 +17,9 @@ use Rattle.elements.specs.declared.tags.RawTag.{RawTag}
 use Rattle.elements.specs.declared.tags.Tag.{Tag}
 use Rattle.elements.specs.declared.tags.TagIter.{TagIter}
 use Rattle.elements.specs.declared.tags.TagIter.TheVariants as iter
+use Rattle.elements.specs.Steps.{said_then}
 use Rattle.elements.specs.Tags.{tag_then, found_tags, raw_tags_from, tags_by, tags_from}
+use Rattle.same.specs.Streams.{Item-stands}
 use Rattle.same.specs.Tags.{TagStands}
 use Rattle.same.proofs.laws.Stands.{text_stands}
 
@@ -48,3 +50,9 @@ module _ (s : List ℕ) (r : WireBlock) where
   tag-stands iter.Ended g = absurd (let z : ◌≡◌ {A = ℕ} 0 1 = cc in omega arith)
   tag-stands (iter.Columns c) g = tested_stand (is_record_inside s r) (iter.Columns c) g
   tag-stands (iter.KeysVals c) g = tested_stand (is_record_inside s r) (iter.KeysVals c) g
+
+  -- by what a step says
+  pub tags-stand : (w : TagIter) (said : Outcome (Option Tag)) (others : Column Tag) → said_then said others ≡ tags_from s r w → Item-stands (λ t. TagStands s t) said
+  tags-stand w (Ok (Some t)) others g = tag-stands w (sym g)
+  tags-stand w (Ok None) others g = tt
+  tags-stand w (Err n) others g = tt

@@ -1,5 +1,6 @@
 -- The law of a call's short way: where the tests hold and words tell the row of a node without pairs, that node is the call's one element, and the
 -- numbers that are put in the slot are those of the state behind it.
+use Rattle.std.specs.Prelude.{Ok}
 use Prim.Native.Nat.{ℕ, ◌+◌, ◌≤◌}
 use mathlib.Core.Path.{◌≡◌, refl, sym, ap, ◌∙◌, subst}
 use mathlib.Core.List.{List}
@@ -23,8 +24,8 @@ use Rattle.walk.specs.Walk.{elements_from}
 use Rattle.answers.specs.Words.{filled}
 use Rattle.answers.proofs.laws.Words.{from_start}
 use Rattle.calls.specs.Calls.{one_room, call_code, items_of, SlotLeft}
-use Rattle.calls.specs.Filling.{CalledBy, ServedBy}
-use Rattle.calls.proofs.laws.Calls.{puts-item, one-filled, call_asks, served, not-served, with-room}
+use Rattle.calls.specs.Items.{CalledBy, ServedBy}
+use Rattle.calls.proofs.laws.Items.{puts-item, one-filled, call_gives, served, not-served, told_as, with-room}
 use Rattle.walk_slots.specs.Held.{NodesHeld}
 use Rattle.walk_slots.specs.Slot.{walk_words, nodes_at, live_at, walk_at}
 use Rattle.walk_slots.proofs.laws.Back.{nodes-put}
@@ -65,15 +66,16 @@ module _ (s rec slot out : List ℕ) (long : 272 ≤ length slot) (room : 208 �
       (byte_stands s d.columns.keyvals no_pairs)))
 
   pub short_call : NodesHeld (at_columns d short_behind) → {left after : List ℕ} → left ≡ filled slot (walk_words (walk.DenseNodes (at_columns d short_behind))) → after ≡ filled out (put_words (node_put d d.columns.keyvals short_behind.rows))
-      → CalledBy (found_by s) put_words (walk_in s rec) 208 walk.Ended out walk_at walk_words slot (walk_call s rec slot (one_room 208 out)) 0 1 left after
+      → CalledBy (found_by s) put_words (walk_in s rec) 208 walk_at walk_words walk.Ended (walk_call s rec slot (one_room 208 out)) slot out {C = Unit} (Ok tt) left after
   short_call held put after =
       let q = node_put d d.columns.keyvals short_behind.rows in
       let on = node-onward s d d.columns (record { found = 1; columns = short_behind }) said (λ z. omega arith) in
       let item = puts-item put_words (elements_from s p.block) {w = walk.DenseNodes d} q (on.first p.block p.tables nodes-inside) (after ∙ sym (from_start out (put_words q))) in
       with-room (walk_call s rec slot) (sym (ap (λ (b : Bool). choose b 1 0) (le-leb 208 (length out) room)))
+      (told_as refl
       (called-over s rec slot out 1 p.read
-      (call_asks (found_by s) put_words (elements_from s p.block) 208 walk.Ended walk_at walk_words walk_over 272 out slot 1 long there put ((nodes-put slot (at_columns d short_behind) held put).1 long) refl
-      (one-filled put_words (elements_from s p.block) 208 walk.Ended (walk.DenseNodes d) put_small room item)))
+      (call_gives (found_by s) put_words (elements_from s p.block) 208 walk_at walk_words walk.Ended walk_over 272 1 slot out long there refl put ((nodes-put slot (at_columns d short_behind) held put).1 long)
+      (one-filled put_words (elements_from s p.block) 208 (walk.DenseNodes d) put_small room item))).0)
 
 -- ---- a call by the short way, or else by a step
 
@@ -84,7 +86,7 @@ module _ (s rec : List ℕ) where
       (code ≡ call_code call) × (SlotLeft walk_at walk_words walk.Ended (walk_in s rec) slot call left × ElementsIn s out (items_of call) after)
 
   abbrev Served : List ℕ → List ℕ → Bool → List ℕ → List ℕ → Type 0
-  Served slot out = ServedBy (found_by s) put_words (walk_in s rec) 208 walk.Ended out walk_at walk_words slot (walk_call s rec slot (one_room 208 out))
+  Served slot out = ServedBy (found_by s) put_words (walk_in s rec) 208 walk_at walk_words walk.Ended (walk_call s rec slot (one_room 208 out)) slot out
 
   pub step_served : {slot out : List ℕ} {yes : Bool} {left after : List ℕ} → Served slot out yes left after → yes ≡ true → StepClauses slot out 0 left after
   step_served p e = let q = served p e in (q.tells-code, (q.leaves-slot, elements_in q.puts))

@@ -1,12 +1,12 @@
--- Laws of the states that an element's bytes start at: by the tests on those bytes, and what is left in the slot.
+-- Laws of the states that an element's bytes start at: by the tests on those bytes, and by the kind that they tell.
 use Rattle.std.specs.Prelude.{Ok, Err}
-use Prim.Native.Nat.{ℕ, ◌*◌, ◌≤◌, ◌<◌}
+use Prim.Native.Nat.{ℕ, zero, suc, ◌*◌, ◌≤◌, ◌<◌}
 use native.Mathlib.Omega.{arith}
-use mathlib.Core.Path.{◌≡◌, refl, sym, ap, ◌∙◌}
+use mathlib.Core.Path.{◌≡◌, refl, sym, ◌∙◌}
 use mathlib.Core.List.{List}
 use mathlib.Core.Bool.{Bool, true, false, true≢false}
 use lib.ListN.{length}
-use lib.Dec.{leb}
+use lib.Dec.{leb, eqb}
 use lib.IntN.{pos}
 use borrow.Author.Tests.{le-leb, lt-leb, eq-eqb, ne_eqb}
 use Rattle.numbers.specs.Choose.{choose}
@@ -21,24 +21,11 @@ use Rattle.elements.specs.declared.tags.TagIter.TheVariants as tags
 use Rattle.elements.specs.declared.members.RelMemberIter.{RelMemberIter}
 use Rattle.elements.specs.declared.members.RelMemberIter.TheVariants as members
 use Rattle.elements.specs.Tags.{keys_and_vals}
-use Rattle.answers.specs.Words.{filled}
-use Rattle.answers.specs.Codes.{code_of}
-use Rattle.answers.proofs.laws.Words.{put-short}
-use Rattle.calls.specs.References.{ref_words}
-use Rattle.tag_calls.specs.Tags.{tag_words}
-use Rattle.member_calls.specs.Members.{member_words}
 use Rattle.calls.specs.Slots.{column_at}
-use Rattle.start_calls.specs.Starts.{part_at, refs_start_in, columns_start_in, tags_start_in, members_start_in, started_by, Started}
-
-module _ {W : Type 0} (over : W) {start : Outcome W} where
-  pub starts-kept : {w state : W} → start ≡ Ok w → state ≡ w → Started over start 0 state
-  starts-kept e g = record { tells-code = sym (ap code_of e); stands = g ∙ sym (ap (started_by over) e) }
-
-  pub starts-refused : start ≡ Err Outside → Started over start 14 over
-  starts-refused e = record { tells-code = sym (ap code_of e); stands = sym (ap (started_by over) e) }
-
-  pub starts_as : {other : Outcome W} {code : ℕ} {state : W} → start ≡ other → Started over other code state → Started over start code state
-  starts_as e p = record { tells-code = p.tells-code ∙ sym (ap code_of e); stands = p.stands ∙ sym (ap (started_by over) e) }
+use Rattle.start_calls.specs.declared.kind.ElementKind.{ElementKind}
+use Rattle.start_calls.specs.declared.kind.ElementKind.TheVariants as kind
+use Rattle.start_calls.specs.Kind.{kind_of}
+use Rattle.start_calls.specs.Starts.{kind_at, kind_in, part_at, whole, refs_start_in, columns_start_in, tags_start_in, members_start_in}
 
 -- ---- keys and vals
 
@@ -68,31 +55,28 @@ not-all false b c x y e = refl
 -- ---- by the length and the kind
 
 module _ (s : List ℕ) where
-  module _ (h : length s < 208) where
-    pub refs-short : refs_start_in s ≡ Err Outside
-    unfolding refs_start_in
-    refs-short = rw (lt-leb 208 (length s) h)
+  abbrev pub three_columns : RelMemberIter
+  three_columns =
+      members.Members
+      (record {
+        roles = start_of (part_at s 112);
+        memids = record { column = start_of (part_at s 136); sum = pos 0 };
+        types = start_of (part_at s 160);
+      })
 
-    pub tags-short : tags_start_in s ≡ Err Outside
-    unfolding tags_start_in
-    tags-short = rw (lt-leb 208 (length s) h)
+  abbrev pub roles : Bool
+  roles = leb (number_at 8 s 112) 1
 
-    pub members-short : members_start_in s ≡ Err Outside
-    unfolding members_start_in
-    members-short = rw (lt-leb 208 (length s) h)
+  abbrev pub memids : Bool
+  memids = leb (number_at 8 s 136) 1
+
+  abbrev pub types : Bool
+  types = leb (number_at 8 s 160) 1
 
   module _ (h : 208 ≤ length s) {kind : ℕ} (e : kind ≡ number_at 8 s 0) where
     pub refs-of-way : kind ≡ 2 → leb (number_at 8 s 112) 1 ≡ true → refs_start_in s ≡ Ok (refs.Refs (record { column = start_of (part_at s 112); sum = pos 0 }))
     unfolding refs_start_in
     refs-of-way k g = rw (le-leb 208 (length s) h, ← e, eq-eqb kind 2 k, g)
-
-    pub way_without : kind ≡ 2 → leb (number_at 8 s 112) 1 ≡ false → refs_start_in s ≡ Err Outside
-    unfolding refs_start_in
-    way_without k g = rw (le-leb 208 (length s) h, ← e, eq-eqb kind 2 k, g)
-
-    pub refs-of-none : (kind ≡ 2 → ⊥) → 3 < kind → refs_start_in s ≡ Err Outside
-    unfolding refs_start_in
-    refs-of-none k l = rw (le-leb 208 (length s) h, ← e, ne_eqb kind 2 k, lt-leb kind 3 l)
 
     pub no-refs : (kind ≡ 2 → ⊥) → kind ≤ 3 → refs_start_in s ≡ Ok refs.Ended
     unfolding refs_start_in
@@ -106,31 +90,9 @@ module _ (s : List ℕ) where
     unfolding tags_start_in
     tags-of-node j k = rw (le-leb 208 (length s) h, ← e, ne_eqb kind 0 j, eq-eqb kind 1 k)
 
-    pub tags-of-none : (kind ≡ 0 → ⊥) → (kind ≡ 1 → ⊥) → 3 < kind → tags_start_in s ≡ Err Outside
-    unfolding tags_start_in
-    tags-of-none j k l = rw (le-leb 208 (length s) h, ← e, ne_eqb kind 0 j, ne_eqb kind 1 k, lt-leb kind 3 l)
-
     pub tags-of-others : (kind ≡ 0 → ⊥) → (kind ≡ 1 → ⊥) → kind ≤ 3 → tags_start_in s ≡ columns_start_in s 40 64
     unfolding tags_start_in
     tags-of-others j k l = rw (le-leb 208 (length s) h, ← e, ne_eqb kind 0 j, ne_eqb kind 1 k, le-leb kind 3 l)
-
-    abbrev three_columns : RelMemberIter
-    three_columns =
-        members.Members
-        (record {
-          roles = start_of (part_at s 112);
-          memids = record { column = start_of (part_at s 136); sum = pos 0 };
-          types = start_of (part_at s 160);
-        })
-
-    abbrev roles : Bool
-    roles = leb (number_at 8 s 112) 1
-
-    abbrev memids : Bool
-    memids = leb (number_at 8 s 136) 1
-
-    abbrev types : Bool
-    types = leb (number_at 8 s 160) 1
 
     relation-by : kind ≡ 3 → members_start_in s ≡ choose roles (choose memids (choose types (Ok three_columns) (Err Outside)) (Err Outside)) (Err Outside)
     unfolding members_start_in
@@ -139,47 +101,112 @@ module _ (s : List ℕ) where
     pub members-of-relation : kind ≡ 3 → choose roles (choose memids types false) false ≡ true → members_start_in s ≡ Ok three_columns
     members-of-relation k g = relation-by k ∙ all_three roles memids types (Ok three_columns) (Err Outside) g
 
-    pub relation_without : kind ≡ 3 → choose roles (choose memids types false) false ≡ false → members_start_in s ≡ Err Outside
-    relation_without k g = relation-by k ∙ not-all roles memids types (Ok three_columns) (Err Outside) g
-
-    pub members-of-none : (kind ≡ 3 → ⊥) → 3 < kind → members_start_in s ≡ Err Outside
-    unfolding members_start_in
-    members-of-none k l = rw (le-leb 208 (length s) h, ← e, ne_eqb kind 3 k, lt-leb kind 3 l)
-
     pub no-members : (kind ≡ 3 → ⊥) → kind ≤ 3 → members_start_in s ≡ Ok members.Ended
     unfolding members_start_in
     no-members k l = rw (le-leb 208 (length s) h, ← e, ne_eqb kind 3 k, le-leb kind 3 l)
 
--- ---- the slot
+-- ---- by the kind that the element's numbers tell
 
-pub refs_width : (w : WayRefIter) → 8 * length (ref_words w) ≡ 32
-refs_width refs.Ended = refl
-refs_width (refs.Refs c) = refl
+abbrev pub refs_by : List ℕ → Outcome ElementKind → Outcome WayRefIter
+refs_by s (Ok kind.DenseNode) = Ok refs.Ended
+refs_by s (Ok kind.Node) = Ok refs.Ended
+refs_by s (Ok kind.Way) = whole s 112 (Ok (refs.Refs (record { column = start_of (part_at s 112); sum = pos 0 })))
+refs_by s (Ok kind.Relation) = Ok refs.Ended
+refs_by s (Err r) = Err r
 
-pub tags_width : (w : TagIter) → 8 * length (tag_words w) ≡ 40
-tags_width tags.Ended = refl
-tags_width (tags.Columns c) = refl
-tags_width (tags.KeysVals c) = refl
+abbrev pub tags_by : List ℕ → Outcome ElementKind → Outcome TagIter
+tags_by s (Ok kind.DenseNode) = Ok (tags.KeysVals (column_at s 56))
+tags_by s (Ok kind.Node) = columns_start_in s 56 80
+tags_by s (Ok kind.Way) = columns_start_in s 40 64
+tags_by s (Ok kind.Relation) = columns_start_in s 40 64
+tags_by s (Err r) = Err r
 
-pub members_width : (w : RelMemberIter) → 8 * length (member_words w) ≡ 64
-members_width members.Ended = refl
-members_width (members.Members c) = refl
+abbrev pub members_by : List ℕ → Outcome ElementKind → Outcome RelMemberIter
+members_by s (Ok kind.DenseNode) = Ok members.Ended
+members_by s (Ok kind.Node) = Ok members.Ended
+members_by s (Ok kind.Way) = Ok members.Ended
+members_by s (Ok kind.Relation) = whole s 112 (whole s 136 (whole s 160 (Ok (three_columns s))))
+members_by s (Err r) = Err r
 
-module _ {W : Type 0} (state_at : List ℕ → W) (stateWords : W → List ℕ) (over : W) (width : ℕ) (slot : List ℕ) (start : Outcome W) where
-  -- the code and the slot after a start
-  abbrev StartLeft : ℕ → List ℕ → Type 0
-  StartLeft code after =
-      (code ≡ choose (leb width (length slot)) (code_of start) 14)
-      × ((after ≡ filled slot (stateWords (started_by over start))) × (width ≤ length slot → state_at after ≡ started_by over start))
+-- the tests that a definition of a start makes on a number, where that is no kind
+module _ (n : ℕ) where
+  no-kind : kind_of (suc (suc (suc (suc n)))) ≡ Err Outside
+  no-kind =
+      let m = suc (suc (suc (suc n))) in
+      rw (ne_eqb m 0 (λ z. omega (arith, z)), ne_eqb m 1 (λ z. omega (arith, z)), ne_eqb m 2 (λ z. omega (arith, z)), ne_eqb m 3 (λ z. omega (arith, z)))
 
-  pub start-short : ((w : W) → 8 * length (stateWords w) ≡ width) → length slot < width → StartLeft 14 slot
-  start-short size h = (
-    rw (lt-leb width (length slot) h),
-    (put-short slot (stateWords (started_by over start)) (omega (arith, size (started_by over start))), λ l. absurd (omega arith)),
-  )
+pub refs-by : (s : List ℕ) → refs_start_in s ≡ refs_by s (kind_in s)
+unfolding refs_start_in
+refs-by s = by (leb 208 (length s)) (kind_at s)
+  where
+    by : (long : Bool) (n : ℕ) → choose long (choose (eqb n 2) (refs_by s (Ok kind.Way)) (choose (leb n 3) (Ok refs.Ended) (Err Outside))) (Err Outside) ≡ refs_by s (choose long (kind_of n) (Err Outside))
+    by false n = refl
+    by true zero = refl
+    by true (suc zero) = refl
+    by true (suc (suc zero)) = refl
+    by true (suc (suc (suc zero))) = refl
+    by true (suc (suc (suc (suc n)))) =
+        let m = suc (suc (suc (suc n))) in
+        rw (no-kind n, ne_eqb m 2 (λ z. omega (arith, z)), lt-leb m 3 (omega arith))
 
-  pub start-put : width ≤ length slot → {code : ℕ} {state : W} {after : List ℕ} → Started over start code state → after ≡ filled slot (stateWords state) → (width ≤ length slot → state_at after ≡ state) → StartLeft code after
-  start-put h p e back = (
-    p.tells-code ∙ sym (rw (le-leb width (length slot) h)),
-    (e ∙ ap (λ (w : W). filled slot (stateWords w)) p.stands, λ l. back l ∙ p.stands),
-  )
+pub tags-by : (s : List ℕ) → tags_start_in s ≡ tags_by s (kind_in s)
+unfolding tags_start_in
+tags-by s = by (leb 208 (length s)) (kind_at s)
+  where
+    by : (long : Bool) (n : ℕ)
+        → choose long (choose (eqb n 0) (Ok (tags.KeysVals (column_at s 56))) (choose (eqb n 1) (columns_start_in s 56 80) (choose (leb n 3) (columns_start_in s 40 64) (Err Outside)))) (Err Outside)
+        ≡ tags_by s (choose long (kind_of n) (Err Outside))
+    by false n = refl
+    by true zero = refl
+    by true (suc zero) = refl
+    by true (suc (suc zero)) = refl
+    by true (suc (suc (suc zero))) = refl
+    by true (suc (suc (suc (suc n)))) =
+        let m = suc (suc (suc (suc n))) in
+        rw (no-kind n, ne_eqb m 0 (λ z. omega (arith, z)), ne_eqb m 1 (λ z. omega (arith, z)), lt-leb m 3 (omega arith))
+
+pub members-by : (s : List ℕ) → members_start_in s ≡ members_by s (kind_in s)
+unfolding members_start_in
+members-by s = by (leb 208 (length s)) (kind_at s)
+  where
+    by : (long : Bool) (n : ℕ) → choose long (choose (eqb n 3) (members_by s (Ok kind.Relation)) (choose (leb n 3) (Ok members.Ended) (Err Outside))) (Err Outside) ≡ members_by s (choose long (kind_of n) (Err Outside))
+    by false n = refl
+    by true zero = refl
+    by true (suc zero) = refl
+    by true (suc (suc zero)) = refl
+    by true (suc (suc (suc zero))) = refl
+    by true (suc (suc (suc (suc n)))) =
+        let m = suc (suc (suc (suc n))) in
+        rw (no-kind n, ne_eqb m 3 (λ z. omega (arith, z)), lt-leb m 3 (omega arith))
+
+-- a kind by the arm of a `match` that takes the others
+pub no-way : (s : List ℕ) (k : ElementKind) → (k ≡ kind.Way → ⊥) → refs_by s (Ok k) ≡ Ok refs.Ended
+no-way s kind.DenseNode h = refl
+no-way s kind.Node h = refl
+no-way s kind.Way h = absurd (h refl)
+no-way s kind.Relation h = refl
+
+pub no-relation : (s : List ℕ) (k : ElementKind) → (k ≡ kind.Relation → ⊥) → members_by s (Ok k) ≡ Ok members.Ended
+no-relation s kind.DenseNode h = refl
+no-relation s kind.Node h = refl
+no-relation s kind.Way h = refl
+no-relation s kind.Relation h = absurd (h refl)
+
+pub way-or_relation : (s : List ℕ) (k : ElementKind) → (k ≡ kind.DenseNode → ⊥) → (k ≡ kind.Node → ⊥) → tags_by s (Ok k) ≡ columns_start_in s 40 64
+way-or_relation s kind.DenseNode h j = absurd (h refl)
+way-or_relation s kind.Node h j = absurd (j refl)
+way-or_relation s kind.Way h j = refl
+way-or_relation s kind.Relation h j = refl
+
+-- the parts of a way, and of a relation
+pub way_with : (s : List ℕ) → leb (number_at 8 s 112) 1 ≡ true → refs_by s (Ok kind.Way) ≡ Ok (refs.Refs (record { column = start_of (part_at s 112); sum = pos 0 }))
+way_with s g = rw g
+
+pub way_without : (s : List ℕ) → leb (number_at 8 s 112) 1 ≡ false → refs_by s (Ok kind.Way) ≡ Err Outside
+way_without s g = rw g
+
+pub relation_with : (s : List ℕ) → choose (roles s) (choose (memids s) (types s) false) false ≡ true → members_by s (Ok kind.Relation) ≡ Ok (three_columns s)
+relation_with s g = all_three (roles s) (memids s) (types s) (Ok (three_columns s)) (Err Outside) g
+
+pub relation_without : (s : List ℕ) → choose (roles s) (choose (memids s) (types s) false) false ≡ false → members_by s (Ok kind.Relation) ≡ Err Outside
+relation_without s g = not-all (roles s) (memids s) (types s) (Ok (three_columns s)) (Err Outside) g

@@ -21,7 +21,6 @@ use Rattle.columns.proofs.laws.Short.{behind_word, word_tells}
 use Rattle.columns.proofs.laws.Zip.{mapped_end, zipped_end}
 use Rattle.elements.specs.declared.tags.TagIter.{TagIter}
 use Rattle.elements.specs.declared.tags.TagIter.TheVariants as iter
-use Rattle.elements.specs.declared.tags.RawTagStep.TheVariants as raw
 use Rattle.elements.specs.Tags.{raw_tags_from, tags_by, tags_from}
 use Rattle.elements.proofs.laws.Tags.{pair-told, dense-told, texts-told}
 use Rattle.calls.proofs.laws.Ended.{ended-inside}
@@ -29,7 +28,7 @@ use Rattle.calls.proofs.laws.Ended.{ended-inside}
 module _ (s : List ℕ) (b : WireBlock) (h : is_record_inside s b ≡ true) where
   -- no pair of numbers, no tag
   no-tag : (w : TagIter) → tags_by s b w ≡ tags_from s b w → end ended ≡ raw_tags_from s w → tags_from s b w ≡ end ended
-  no-tag w going e = sym (texts-told s b h w {r = raw.Ended w} {known = raw.Ended w} e refl ∙ going)
+  no-tag w going e = sym (texts-told s b h w {r = Ok None} {known = Ok None} e refl ∙ going)
 
   pub columns-ended : (c : TagColumns) → ahead s c.keys ≡ end ended → ahead s c.vals ≡ end ended → tags_from s b (iter.Columns c) ≡ end ended
   columns-ended c keys vals =

@@ -61,9 +61,3 @@ module _ (slot : List ℕ) (room : 40 ≤ length slot) where
       let phase = back 0 (lit< tt) (lit< tt) in
       sym (tags-of-dense (filled slot ws) refl (λ z. omega (arith, phase, z)) (λ z. omega (arith, phase, z)) phase)
       ∙ (λ i. iter.KeysVals (record { at = back 1 (lit< tt) at i; end = back 2 (lit< tt) end i }))
-
--- a state by the arm of a `match` that takes all but the ended one
-pub tags_going : (w : TagIter) → (w ≡ iter.Ended → ⊥) → tags_over w ≡ false
-tags_going iter.Ended h = absurd (h refl)
-tags_going (iter.Columns c) h = refl
-tags_going (iter.KeysVals c) h = refl

@@ -1,5 +1,5 @@
 -- Laws of the slots as the code keeps them: what storing a field does to the array, the loop, and what is handed out.
-use Rattle.std.specs.Prelude.{Ok, Err}
+use Rattle.std.specs.Prelude.{Some, None, Ok, Err}
 use Prim.Native.Nat.{ℕ, zero, suc, ◌+◌, ◌<◌}
 use mathlib.Core.Path.{◌≡◌, refl, sym, ap, ◌∙◌, subst}
 use mathlib.Core.List.{List, [], ◌∷◌}
@@ -21,7 +21,6 @@ use Rattle.message.specs.Message.{Field, MessageEnd, complete, cut, spoilt, fiel
 use Rattle.message.specs.declared.field.NoField.{NoField}
 use Rattle.message.specs.declared.field.NoField.TheVariants.{Cut, Spoilt}
 use Rattle.message.specs.Answers.{field_by, field_of, refusal_in}
-use Rattle.numbers.proofs.laws.Choose.{choose_elim}
 use Rattle.message.proofs.laws.Message.{message-from}
 use Rattle.fields.specs.declared.part.Part.{Part}
 use Rattle.fields.specs.declared.slot.Slot.{Slot}
@@ -50,19 +49,12 @@ placed-back k = by (eqb k 20) (eqb k 7) refl refl
 
 -- ---- storing by a rule
 
-with-same : (slots : Slots) (k : ℕ) → with slots k (slots k) ≡ slots
-with-same slots k i j = at j i
-  where
-    at : (j : ℕ) → with slots k (slots k) j ≡ slots j
-    at j = choose_elim (λ (x : Slot). x ≡ slots j) (eqb j k) (slots k) (slots j) (λ e. ap slots (sym (eqb-true j k e))) (λ e. refl)
-
-by_rule : (t : Rule) (slots : Slots) (p : Payload) → store_by (rule_by t) slots p ≡ each (with slots (placed (place_of t))) (put_by t (slots (placed (place_of t))) p)
+by_rule : (t : Rule) (slots : Slots) (p : Payload) → store_by (rule_by (Some t)) slots p ≡ each (with slots (placed (place_of t))) (put_by t (slots (placed (place_of t))) p)
 unfolding each
 by_rule (rule.Scalar k) slots p = refl
 by_rule (rule.Column k) slots p = refl
 by_rule (rule.Message k) slots p = refl
 by_rule (rule.Bytes k) slots p = refl
-by_rule rule.Pass slots p = sym (ap Ok (with-same slots 0))
 
 -- ---- the array has room for every row
 
@@ -83,15 +75,14 @@ room k h = by_test (ltb (placed (placed k)) 11) refl h
     by_test true g h = subst (λ (n : ℕ). n < 11) (placed-back k) (ltb-true (placed (placed k)) 11 g)
     by_test false g h = absurd (let z : ◌≡◌ {A = ℕ} 0 1 = cc in omega arith)
 
-pub in_room : (schema : Schema) (t : Rule) (k tag : ℕ) → has_room schema ≡ true → k ≡ place_of t → rule_by t ≡ rule_for schema (split tag) → k < 11
+pub in_room : (schema : Schema) (t : Rule) (k tag : ℕ) → has_room schema ≡ true → k ≡ place_of t → rule_by (Some t) ≡ rule_for schema (split tag) → k < 11
 in_room schema t k tag enough at e = subst (λ (n : ℕ). n < 11) (sym at) (by_case t (ap has_room e ∙ room_rule schema (split tag) enough))
   where
-    by_case : (t : Rule) → has_room (rule_by t) ≡ true → place_of t < 11
+    by_case : (t : Rule) → has_room (rule_by (Some t)) ≡ true → place_of t < 11
     by_case (rule.Scalar k) h = room k h
     by_case (rule.Column k) h = room k h
     by_case (rule.Message k) h = room k h
     by_case (rule.Bytes k) h = room k h
-    by_case rule.Pass h = omega arith
 
 -- ---- moving the parts
 
@@ -131,7 +122,6 @@ put-moved (rule.Scalar k) base old value start len h = refl
 put-moved (rule.Column k) base old value start len h = slot-moved base value (column_part old.part start len) (column-moved base old.part start len)
 put-moved (rule.Message k) base old value start len h = slot-moved base value (info_part old.part start len) (info-moved base old.part start len h)
 put-moved (rule.Bytes k) base old value start len h = refl
-put-moved rule.Pass base old value start len h = refl
 
 -- ---- the array
 
@@ -168,7 +158,7 @@ slots_set base slots v w k a h g i j = (ap (λ (s : Slots). s (placed j)) g ∙ 
 
 -- ---- one field
 
-module _ (base : ℕ) (schema : Schema) {slots : Slots} {v : List Slot} (h : Holds base slots v) (t : Rule) (k tag value start len : ℕ) (at : k ≡ place_of t) (r : rule_by t ≡ rule_for schema (split tag)) {old : Slot} (was : old ≡ slot_at v k) {out : Outcome Slot} (o : out ≡ put_by t old (payload_of value (base + start) len)) where
+module _ (base : ℕ) (schema : Schema) {slots : Slots} {v : List Slot} (h : Holds base slots v) (t : Rule) (k tag value start len : ℕ) (at : k ≡ place_of t) (r : rule_by (Some t) ≡ rule_for schema (split tag)) {old : Slot} (was : old ≡ slot_at v k) {out : Outcome Slot} (o : out ≡ put_by t old (payload_of value (base + start) len)) where
   abbrev field : ℕ
   field = placed k
 
@@ -236,7 +226,15 @@ module _ (base : ℕ) (schema : Schema) (s : List ℕ) where
     no_more (Cut n) e = cut_off e
     no_more (Spoilt t n) e = spoilt_off e
 
-    module _ (t : Rule) (k tag value start len : ℕ) {q : ℕ} (at : k ≡ place_of t) (e : field_at s p ≡ item (field_by tag value start len) q) (r : rule_by t ≡ rule_for schema (split tag)) {old : Slot} (was : old ≡ slot_at v k) {out : Outcome Slot} (o : out ≡ put_by t old (payload_of value (base + start) len)) where
+    -- a field that no row takes
+    pub passed : (tag value start len : ℕ) {q : ℕ} → field_at s p ≡ item (field_by tag value start len) q → rule_by None ≡ rule_for schema (split tag) → Filling base schema s v q
+    unfolding view_from onward
+    passed tag value start len {q} e r =
+        let f = field_by tag value start len in
+        let same : store schema w.slots f ≡ Ok w.slots = stored-by schema w.slots f ∙ ap (λ (x : List Row). store_by x w.slots f.payload) (sym r) in
+        record { slots = w.slots; holds = w.holds; so = from-item e ∙ ap (λ x. onward x λ next. view_from schema next (message_from s q)) same }
+
+    module _ (t : Rule) (k tag value start len : ℕ) {q : ℕ} (at : k ≡ place_of t) (e : field_at s p ≡ item (field_by tag value start len) q) (r : rule_by (Some t) ≡ rule_for schema (split tag)) {old : Slot} (was : old ≡ slot_at v k) {out : Outcome Slot} (o : out ≡ put_by t old (payload_of value (base + start) len)) where
       pub not-stored : {n : Refusal} → out ≡ Err n → Err n ≡ each (moved_slots base) (view schema s)
       unfolding view_from onward each
       not-stored g = sym (ap (each (moved_slots base)) (from-item e ∙ ap (λ x. onward x λ next. view_from schema next (message_from s q)) (field-refused base schema w.holds t k tag value start len at r was o g)))

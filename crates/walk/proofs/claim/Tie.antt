@@ -3,7 +3,7 @@
 -- that promises less breaks a law here, while the claim's own words stay as they are.
 use Rattle.std.specs.Prelude.{Ok}
 use Prim.Native.Nat.{ℕ}
-use mathlib.Core.Path.{◌≡◌, refl, sym, ap, ◌∙◌, subst}
+use mathlib.Core.Path.{◌≡◌, sym, ap, ◌∙◌, subst}
 use mathlib.Core.List.{List, ◌∷◌}
 use mathlib.Core.Bool.{false}
 use lib.ListN.{take}
@@ -11,7 +11,6 @@ use contract.Lifetimes.{Lfts}
 use denote.Triple.Clauses.{AtExit}
 use borrow.Fn.Kinds.{ended_of}
 use borrow.Fn.World.{ArgsD, ResD}
-use native.Mathlib.Omega.{arith}
 use Rattle.fields.specs.Outcome.{each}
 use Rattle.wire.specs.declared.record.WireBlock.{WireBlock}
 use Rattle.wire.specs.Scan.{Scanned, meta, Scanned-as}
@@ -49,9 +48,13 @@ use Rattle.elements.specs.contracts.members.role_text as role
 use Rattle.elements.proofs.members.role_text.Kinds as role-kinds
 use Rattle.elements.proofs.members.role_text.Reads as role-reads
 use Rattle.walk.specs.Walk.{fresh}
-use Rattle.elements.specs.declared.tags.TagIterStep.{TagIterStep}
-use Rattle.elements.specs.declared.references.WayRefStep.{WayRefStep}
-use Rattle.elements.specs.declared.members.RelMemberStep.{RelMemberStep}
+use Rattle.fields.specs.declared.step.Step.{Step}
+use Rattle.elements.specs.declared.tags.TagIter.{TagIter}
+use Rattle.elements.specs.declared.tags.Tag.{Tag}
+use lib.IntN.{ℤ}
+use Rattle.elements.specs.declared.references.WayRefIter.{WayRefIter}
+use Rattle.elements.specs.declared.members.RelMember.{RelMember}
+use Rattle.elements.specs.declared.members.RelMemberIter.{RelMemberIter}
 use Rattle.walk.specs.declared.block_elements.ElementStep.{ElementStep}
 use Rattle.walk.specs.Run.{Run, asks}
 use Rattle.walk.specs.Whole.{Accepted, CallPost, by_step, by_next, after_step, TagPost, after_tag, RefPost, after_ref, MemberPost, after_member}
@@ -123,7 +126,7 @@ module _ (κs : Lfts 1) (a : ArgsD tag.signature κs) (z : ResD tag.signature κ
   pub tag-steps : tag-reads.Learnt κs a z e → TagPost a.1.0.now a.1.1.0 a.0 z
   tag-steps told = record { says = told.0; behind = told.1 }
 
-  pub tag-first : tag-reads.Learnt κs a z e → {answers : List TagIterStep} → Run (TagPost a.1.0.now a.1.1.0) after_tag (after_tag z) answers → Run (TagPost a.1.0.now a.1.1.0) after_tag a.0 (z ∷ answers)
+  pub tag-first : tag-reads.Learnt κs a z e → {answers : List (Step Tag TagIter)} → Run (TagPost a.1.0.now a.1.1.0) after_tag (after_tag z) answers → Run (TagPost a.1.0.now a.1.1.0) after_tag a.0 (z ∷ answers)
   tag-first told run = asks (tag-steps told) run
 
 module _ (κs : Lfts 0) (a : ArgsD refs-new.signature κs) (z : ResD refs-new.signature κs) (e : AtExit (ended_of 0 refs-new-kinds.ps refs-new-kinds.r) κs) where
@@ -134,7 +137,7 @@ module _ (κs : Lfts 1) (a : ArgsD ref.signature κs) (z : ResD ref.signature κ
   pub ref-steps : ref-reads.Learnt κs a z e → RefPost a.1.0.now a.0 z
   ref-steps told = record { says = told.0; behind = told.1 }
 
-  pub ref-first : ref-reads.Learnt κs a z e → {answers : List WayRefStep} → Run (RefPost a.1.0.now) after_ref (after_ref z) answers → Run (RefPost a.1.0.now) after_ref a.0 (z ∷ answers)
+  pub ref-first : ref-reads.Learnt κs a z e → {answers : List (Step ℤ WayRefIter)} → Run (RefPost a.1.0.now) after_ref (after_ref z) answers → Run (RefPost a.1.0.now) after_ref a.0 (z ∷ answers)
   ref-first told run = asks (ref-steps told) run
 
 module _ (κs : Lfts 0) (a : ArgsD members-new.signature κs) (z : ResD members-new.signature κs) (e : AtExit (ended_of 0 members-new-kinds.ps members-new-kinds.r) κs) where
@@ -145,7 +148,7 @@ module _ (κs : Lfts 1) (a : ArgsD member.signature κs) (z : ResD member.signat
   pub member-steps : member-reads.Learnt κs a z e → MemberPost a.1.0.now a.1.1.0 a.0 z
   member-steps told = record { says = told.0; behind = told.1 }
 
-  pub member-first : member-reads.Learnt κs a z e → {answers : List RelMemberStep} → Run (MemberPost a.1.0.now a.1.1.0) after_member (after_member z) answers → Run (MemberPost a.1.0.now a.1.1.0) after_member a.0 (z ∷ answers)
+  pub member-first : member-reads.Learnt κs a z e → {answers : List (Step RelMember RelMemberIter)} → Run (MemberPost a.1.0.now a.1.1.0) after_member (after_member z) answers → Run (MemberPost a.1.0.now a.1.1.0) after_member a.0 (z ∷ answers)
   member-first told run = asks (member-steps told) run
 
 module _ (κs : Lfts 1) (a : ArgsD role.signature κs) (z : ResD role.signature κs) (e : AtExit (ended_of 1 role-kinds.ps role-kinds.r) κs) where

@@ -1,5 +1,6 @@
 -- The laws of a walk's steps among dense nodes with metadata and among messages: what is said is the first that is ahead, and where nothing
 -- is left the walk moves on.
+use Rattle.std.specs.Prelude.{Ok, Some}
 use Prim.Native.Nat.{ℕ}
 use mathlib.Core.Path.{◌≡◌, refl, sym, ap, ◌∙◌}
 use mathlib.Core.List.{List}
@@ -33,8 +34,6 @@ use Rattle.kinds.specs.Loose.{loose_ahead, loose_from}
 use Rattle.kinds.proofs.laws.Loose.{loose-inside}
 use Rattle.kinds.specs.declared.state.Loose.TheVariants as kind
 use Rattle.walk.specs.declared.state.BlockElementsIter.TheVariants as walk
-use Rattle.kinds.specs.declared.dense_nodes.FullDenseStep.TheVariants as full
-use Rattle.kinds.specs.declared.messages.LooseStep.TheVariants as loose
 use Rattle.kinds.proofs.laws.Inside.{both_hold}
 use Rattle.walk.proofs.laws.Inside.{group-below, nodes-before, dense-group, dense-next}
 use Rattle.walk.proofs.laws.Ahead.{group-cut, group-ended, group-more, kind-cut, kind-more, kind-ended}
@@ -67,7 +66,7 @@ module _ (s : List ℕ) (r : WireBlock) (tables : is_record_inside s r ≡ true)
     behind next others = walk.FullDenseNodes (record { nodes = record { of = nodes.of; message = nodes.message; columns = next }; infos = others })
 
     pub full-says : (next : DenseColumns) (others : InfoColumns) (info : NodeInfo) {q : Move} → q ≡ full_said_by d info next others
-        → full_step_inside s (full.Node info next others) ≡ true → full_dense_ahead s nodes.columns d.infos ≡ full_dense_said s nodes.columns (full.Node info next others) → MovesFull q
+        → full_step_inside s (Ok (Some (info, next, others))) ≡ true → full_dense_ahead s nodes.columns d.infos ≡ full_dense_said s nodes.columns (Ok (Some (info, next, others))) → MovesFull q
     full-says next others info with_it h k =
         let split = both_hold (columns_inside s next) _ h in
         quiet_one s r tables (dense_element next.rows nodes.columns.keyvals info) (behind next others) refl refl (also-true (dense-next s r nodes nodes_in_lem next split.0) split.1) (group-more _ _ _ k) with_it
@@ -96,6 +95,6 @@ module _ (s : List ℕ) (r : WireBlock) (tables : is_record_inside s r ≡ true)
         quiet_moved s r (behind_kind m.full m.of m.kind) is (behind-inside s r m.full m.of below m.kind messages-group) (behind-near s r m.full m.of below m.kind) (kind-ended s r m m.kind (sym from-here ∙ e))
 
     pub messages_say : (message : Part) (e : Element) (at : ℕ) {q : Move} → q ≡ message_said_by m message e at
-        → leb at m.of.len ≡ true → loose_from s m ≡ loose_said s m (loose.Found message e at) → Moves q
+        → leb at m.of.len ≡ true → loose_from s m ≡ loose_said s m (Ok (Some (message, e, at))) → Moves q
     messages_say message e at with_it h k =
         quiet_one s r tables e (walk.Messages (at_place m at)) refl refl (also-true messages-group h) (kind-more s r m m.kind at (sym from-here ∙ k ∙ ap (more (record { message = message; item = item_of s e })) (from_place at h))) with_it

@@ -1,8 +1,9 @@
 -- The laws of turns in a row: a walk that has moved has the same ahead and is inside, and each move brings it nearer to its end; so a turn says
 -- something, or comes to plain dense nodes, where the walk makes its step. Before that comes 14.
+use Rattle.std.specs.Prelude.{Ok, Some}
 use Prim.Native.Nat.{ℕ, ◌<◌}
 use mathlib.Core.Path.{◌≡◌, refl, sym, ap, ◌∙◌, subst}
-use mathlib.Core.List.{List, []}
+use mathlib.Core.List.{List}
 use mathlib.Core.Bool.{Bool, true, false}
 use native.Mathlib.Omega.{arith}
 use lib.Dec.{ltb}
@@ -27,7 +28,6 @@ use Rattle.kinds.specs.Dense.{dense_ahead, dense_said}
 use Rattle.walk.specs.declared.block_elements.ElementStep.{ElementStep}
 use Rattle.kinds.specs.declared.state.Loose.TheVariants as kind
 use Rattle.walk.specs.declared.state.BlockElementsIter.TheVariants as walk
-use Rattle.kinds.specs.declared.dense_nodes.DenseStep.TheVariants as dense
 use Rattle.kinds.proofs.laws.Inside.{both_hold}
 use Rattle.walk.proofs.laws.Inside.{nodes-before, dense-group, dense-next}
 use Rattle.walk.proofs.laws.Ahead.{group-cut, group-ended, group-more}
@@ -72,7 +72,7 @@ module _ {s : List ℕ} {r : WireBlock} {from here : BlockElementsIter} {d : Den
   pub dense-refuses : {n : Refusal} {e : ElementStep} → e ≡ refused_step n → dense_ahead s d.columns ≡ end (cut n) → (element_said s r e ≡ elements_by s r from) × (element_behind e ≡ walk.Ended)
   dense-refuses refuses k = (ap (element_said s r) refuses ∙ sym (w.so ∙ group-cut _ _ _ k), ap element_behind refuses)
 
-  pub dense-says : (next : DenseColumns) {e : ElementStep} → is_record_inside s r ≡ true → columns_inside s next ≡ true → e ≡ dense_said_by d next → dense_ahead s d.columns ≡ dense_said s d.columns (dense.Node next)
+  pub dense-says : (next : DenseColumns) {e : ElementStep} → is_record_inside s r ≡ true → columns_inside s next ≡ true → e ≡ dense_said_by d next → dense_ahead s d.columns ≡ dense_said s d.columns (Ok (Some next))
       → (element_said s r e ≡ elements_by s r from) × (element_behind e ≡ walk.Ended)
   dense-says next tables h says k = (
     ap (element_said s r) says

@@ -1,4 +1,4 @@
--- Laws of the loops of a call: elements that follow one another, by whichever way the next one is found; then elements by steps.
+-- Laws of the loops of a call: elements that follow one another, by whichever way the next one is found.
 use Rattle.std.specs.Prelude.{Ok}
 use Prim.Native.Nat.{ℕ, ◌+◌, ◌-◌, ◌*◌, ◌≤◌, ◌<◌}
 use mathlib.Core.Path.{◌≡◌, refl, sym, ap, ◌∙◌, subst}
@@ -8,8 +8,7 @@ use native.Mathlib.Omega.{arith}
 use lib.ListN.{length}
 use lib.Dec.{leb, ltb}
 use borrow.Author.Tests.{le-leb}
-use Rattle.protobuf.specs.Stream.{end, more}
-use Rattle.protobuf.specs.Column.{Column}
+use Rattle.protobuf.specs.Stream.{more}
 use Rattle.fields.specs.declared.part.Part.{Part}
 use Rattle.wire.specs.declared.record.WireBlock.{WireBlock}
 use Rattle.lookup.specs.Lookup.{is_record_inside}
@@ -33,11 +32,9 @@ use Rattle.walk.proofs.laws.Ahead.{group-more, kind-more}
 use Rattle.walk.proofs.laws.Walking.{both-inside}
 use Rattle.answers.specs.Words.{filled_at}
 use Rattle.answers.proofs.laws.Words.{filled-at-length}
-use Rattle.calls.specs.Filling.{StopsAt, PutBy, ItemPutBy, FillingBy}
-use Rattle.calls.proofs.laws.Calls.{fill_begins, fill_on, fill_ends, fill_full, puts-item}
-use Rattle.walk_calls.specs.Steps.{Put, found_by, put_words}
-use Rattle.walk_calls.specs.Fills.{node_put, at_columns, FillsUp, FillsInside}
-use Rattle.walk_calls.proofs.laws.Steps.{put_small}
+use Rattle.calls.proofs.laws.Items.{fill_begins, fill_on, puts-item}
+use Rattle.walk_calls.specs.Steps.{Put, found_by, put_words, put_small}
+use Rattle.walk_calls.specs.Fills.{node_put, at_columns, FillsInside}
 
 -- ---- one element more
 
@@ -112,49 +109,10 @@ module _ (s : List ℕ) (most : ℕ) where
           within = omega arith;
           room = p.room;
           long = ap length e ∙ filled-at-length mid (208 * n) (put_words q) ∙ p.long;
-          filling = record { by = λ r t k. fill_on put_words (elements_from s r) 208 (p.filling.by r t k) put_small h (puts-item put_words (elements_from s r) q (next.first r t (p.inside r k)) e) refl };
+          filling = record { by = λ r t k. fill_on put_words (elements_from s r) 208 (p.filling.by r t k) put_small h (puts-item put_words (elements_from s r) q (next.first r t (p.inside r k)) e) };
           inside = λ r k. next.inside r (p.inside r k);
         }
 
 -- a slice that is the same
 pub fills_same : {s : List ℕ} {most : ℕ} {w : BlockElementsIter} {out : List ℕ} {n : ℕ} {v : BlockElementsIter} {mid after : List ℕ} → after ≡ mid → FillsInside s most w out n v mid → FillsInside s most w out n v after
 fills_same {s} {most} {w} {out} {n} {v} e p = subst (FillsInside s most w out n v) (sym e) p
-
--- ---- elements by steps, behind those that stand there
-
-module _ (s : List ℕ) (r : WireBlock) (most : ℕ) where
-  abbrev Stands : Column Found → List ℕ → ℕ → BlockElementsIter → List ℕ → Type 0
-  Stands c begun n w out = FillingBy (found_by s) put_words (elements_from s r) 208 c begun most n w out
-
-  -- n of a stream's elements stood in out before w, whichever stream it is; now m of them stand in after before v
-  pub record Goes (n : ℕ) (w : BlockElementsIter) (out : List ℕ) (m : ℕ) (v : BlockElementsIter) (after : List ℕ) : Type 0 where
-    pub within : m ≤ most
-    pub room : 208 * most ≤ length out
-    pub long : length after ≡ length out
-    pub on : (c : Column Found) (begun : List ℕ) → Stands c begun n w out → Stands c begun m v after
-
-  pub goes_begin : (n : ℕ) (w : BlockElementsIter) {out : List ℕ} → n ≤ most → 208 * most ≤ length out → Goes n w out n w out
-  goes_begin n w h room = record { within = h; room = room; long = refl; on = λ c begun p. p }
-
-  module _ {n : ℕ} {w : BlockElementsIter} {out : List ℕ} {m : ℕ} {v : BlockElementsIter} {mid : List ℕ} (p : Goes n w out m v mid) where
-    pub goes-room : m < most → 208 * m + 208 ≤ length mid
-    goes-room h = omega (arith, p.room, p.long)
-
-    put_same : {at code : ℕ} {next : BlockElementsIter} {after : List ℕ} → ItemPutBy (found_by s) put_words (elements_from s r) v mid at code next after → length after ≡ length mid
-    put_same {at} {code} {next} {after} put = by (elements_from s r v) put.by
-      where
-        by : (c : Column Found) → PutBy (found_by s) put_words (elements_from s r) v mid at c code next after → length after ≡ length mid
-        by (more x c) q = ap length q.1.1.put ∙ filled-at-length mid at (put_words q.1.1.item)
-        by (end e) q = ap length q.1.1
-
-    pub goes_on : m < most → {code : ℕ} {next : BlockElementsIter} {after : List ℕ} → ItemPutBy (found_by s) put_words (elements_from s r) v mid (208 * m) code next after → code ≡ 0 → Goes n w out (m + 1) next after
-    goes_on h put none =
-        record { within = omega arith; room = p.room; long = put_same put ∙ p.long; on = λ c begun q. fill_on put_words (elements_from s r) 208 (p.on c begun q) put_small h put none }
-
-    module _ {code count : ℕ} {next : BlockElementsIter} where
-      pub goes-ends : m < most → {told : ℕ} {same : BlockElementsIter} {after : List ℕ} → ItemPutBy (found_by s) put_words (elements_from s r) v mid (208 * m) told same after → (told ≡ 0 → ⊥) → StopsAt walk.Ended told m v code count next
-          → FillsUp s (elements_from s r) most n w out code count next after
-      goes-ends h put some q = record { on = λ c begun k. fill_ends put_words (elements_from s r) 208 (p.on c begun k) walk.Ended h put some q }
-
-      pub goes-full : most ≤ m → StopsAt walk.Ended 14 m v code count next → FillsUp s (elements_from s r) most n w out code count next mid
-      goes-full h q = record { on = λ c begun k. fill_full put_words (elements_from s r) 208 (p.on c begun k) walk.Ended h q }

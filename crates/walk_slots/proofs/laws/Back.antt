@@ -17,8 +17,7 @@ use Rattle.numbers.proofs.laws.Little.{written-length, written_twice}
 use Rattle.numbers.specs.Signed.{signed, twos, is_int32}
 use Rattle.numbers.proofs.laws.Signed.{InRange, sub-below, residue-below}
 use Rattle.protobuf.specs.declared.column.Column.{Column}
-use Rattle.columns.specs.declared.sums.Sum64.{Sum64}
-use Rattle.columns.specs.declared.sums.Sum32.{Sum32}
+use Rattle.columns.specs.declared.sums.Sum.{Sum}
 use Rattle.answers.specs.Words.{words, filled, filled_at, flag, signed_word}
 use Rattle.answers.proofs.laws.Words.{words-length, words_append, put-short}
 use Rattle.answers.proofs.laws.Signed.{Wide, wide}
@@ -31,7 +30,7 @@ use Rattle.kinds.specs.declared.state.Loose.TheVariants as kind
 use Rattle.kinds.specs.declared.state.Messages.{Messages}
 use Rattle.walk.specs.declared.state.BlockElementsIter.{BlockElementsIter}
 use Rattle.walk.specs.declared.state.BlockElementsIter.TheVariants as walk
-use Rattle.walk_slots.specs.Slot.{range_words, column_words, sum_words, sum32_words, nodes_words, infos_words, loose_phase, walk_words}
+use Rattle.walk_slots.specs.Slot.{range_words, column_words, sum_words, nodes_words, infos_words, loose_phase, walk_words}
 use Rattle.walk_slots.specs.Slot.{column_at, sum_at, sum32_at, range_at, nodes_at, infos_at, live_at, walk_at}
 use Rattle.walk_slots.specs.Held.{ColumnHeld, SumHeld, Sum32Held, RangeHeld, NodesHeld, InfosHeld}
 use Rattle.calls.proofs.laws.Slots.{number-back, signed-kept}
@@ -48,7 +47,7 @@ in_range w two (negsuc n) h =
     let same : 2 ^ w - suc bits ≡ n = omega arith in
     record { bits = bits; below = low; is = sym (rw (le-ltb bits (2 ^ (w - 1)) high) (sub-below low ∙ ap negsuc same)) }
 
-sum32-kept : (x : Sum32) → Sum32Held x → Wide x.sum
+sum32-kept : (x : Sum ℤ) → Sum32Held x → Wide x.sum
 sum32-kept x held = wide (in_range 32 refl x.sum held.sum)
 
 -- the numbers ws were put; those from the place i on are told
@@ -81,14 +80,14 @@ module _ (s ws : List ℕ) (room : 8 * length ws ≤ length s) where
       let place : 8 * i + 16 ≡ 8 * (i + 1 + 1) = omega arith in
       ap (number_at 8 (filled s ws)) place ∙ word_back (i + 1 + 1) (next-words (i + 1) (next-words i e)) (residue-below 64 z)
 
-  sum_back : (i : ℕ) (x : Sum64) {rest : List ℕ} → drop i ws ≡ sum_words x rest → SumHeld x → sum_at (filled s ws) (8 * i) ≡ x
+  sum_back : (i : ℕ) (x : Sum ℤ) {rest : List ℕ} → drop i ws ≡ sum_words x rest → SumHeld x → sum_at (filled s ws) (8 * i) ≡ x
   sum_back i x e held j =
       record {
         column = column-back i x.column e held.column j;
         sum = (ap (twos 64) (behind-column i x.column x.sum e) ∙ signed-kept x.sum held.sum) j;
       }
 
-  module _ (i : ℕ) (x : Sum32) {rest : List ℕ} (e : drop i ws ≡ sum32_words x rest) (held : Sum32Held x) where
+  module _ (i : ℕ) (x : Sum ℤ) {rest : List ℕ} (e : drop i ws ≡ sum_words x rest) (held : Sum32Held x) where
     sum32-known : is_int32 (number_at 8 (filled s ws) (8 * i + 16)) ≡ true
     sum32-known = ap is_int32 (behind-column i x.column x.sum e) ∙ (sum32-kept x held).known
 

@@ -1,10 +1,10 @@
 -- Laws of numbers that the machine holds: what is told of a struct, field by field, says it of the struct. What is told of a field stands
 -- behind what owning it is, which is nothing here.
+use lib.IntN.{ℤ}
 use Prim.Native.Nat.{◌^◌, ◌<◌}
 use lib.Signed.{mag}
 use Rattle.protobuf.specs.declared.column.Column.{Column}
-use Rattle.columns.specs.declared.sums.Sum64.{Sum64}
-use Rattle.columns.specs.declared.sums.Sum32.{Sum32}
+use Rattle.columns.specs.declared.sums.Sum.{Sum}
 use Rattle.kinds.specs.declared.state.GroupRangeAt.{GroupRangeAt}
 use Rattle.walk_slots.specs.Held.{ColumnHeld, SumHeld, Sum32Held, RangeHeld}
 
@@ -16,10 +16,10 @@ module _ {A : Type 0} {B C D : A → Type 0} {E : Type 0} where
   column-told t = record { at = t.1.1.0.1; end = t.1.1.1.0.1 }
 
   module _ {F G : Type 0} where
-    pub sum_told : {x : Sum64} → ColumnTold A B C D E x.column × ((F × (mag x.sum < 2 ^ 63)) × G) → SumHeld x
+    pub sum_told : {x : Sum ℤ} → ColumnTold A B C D E x.column × ((F × (mag x.sum < 2 ^ 63)) × G) → SumHeld x
     sum_told t = record { column = column-told t.0; sum = t.1.0.1 }
 
-    pub sum32-told : {x : Sum32} → ColumnTold A B C D E x.column × ((F × (mag x.sum < 2 ^ 31)) × G) → Sum32Held x
+    pub sum32-told : {x : Sum ℤ} → ColumnTold A B C D E x.column × ((F × (mag x.sum < 2 ^ 31)) × G) → Sum32Held x
     sum32-told t = record { column = column-told t.0; sum = t.1.0.1 }
 
 pub range-told : {A B C D : Type 0} {of : GroupRangeAt} →

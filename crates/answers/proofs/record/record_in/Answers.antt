@@ -11,27 +11,27 @@ pub returns-then-s-lt72 : goal.returns-then-s-lt72
 returns-then-s-lt72 c = record-short _ c.if-s-lt72.true
 
 pub returns-then-not-is_int32 : goal.returns-then-not-is_int32
-returns-then-not-is_int32 c = no-granularity _ c.if-s-lt72.false c.read_u64-granularity.ensures c.read_u64-dategranularity.ensures (sym c.is_int32.ensures ∙ c.if-not-is_int32.true)
+returns-then-not-is_int32 c = no-granularity _ c.if-s-lt72.false c.read-granularity.ensures c.read-dategranularity.ensures (sym c.is_int32.ensures ∙ c.if-not-is_int32.true)
 
 pub returns-then-not-is_int32-2 : goal.returns-then-not-is_int32-2
-returns-then-not-is_int32-2 c = no-dategranularity _ c.if-s-lt72.false c.read_u64-granularity.ensures c.read_u64-dategranularity.ensures
+returns-then-not-is_int32-2 c = no-dategranularity _ c.if-s-lt72.false c.read-granularity.ensures c.read-dategranularity.ensures
     (sym c.is_int32.ensures ∙ c.if-not-is_int32.false)
     (sym c.is_int32-2.ensures ∙ c.if-not-is_int32-2.true)
 
 pub returns : goal.returns
-returns c = let eg = c.read_u64-granularity.ensures in
-    let ed = c.read_u64-dategranularity.ensures in
+returns c = let eg = c.read-granularity.ensures in
+    let ed = c.read-dategranularity.ensures in
     ap Ok
     (λ i.
     record {
-      block = c.read_u64.ensures i;
-      strings = c.read_u64-2.ensures i;
-      stringtable = c.read_u64-3.ensures i;
-      groups = c.read_u64-4.ensures i;
-      grouptable = c.read_u64-5.ensures i;
-      granularity = returned w32 c.int32.type_inv (c.int32.ensures ∙ ap (twos 32) eg) i;
-      dategranularity = returned w32 c.int32-2.type_inv (c.int32-2.ensures ∙ ap (twos 32) ed) i;
-      latoffset = returned w64 c.int64.type_inv (c.int64.ensures ∙ ap (twos 64) c.read_u64-6.ensures) i;
-      lonoffset = returned w64 c.int64-2.type_inv (c.int64-2.ensures ∙ ap (twos 64) c.read_u64-7.ensures) i;
+      block = c.read.ensures i;
+      strings = c.read-2.ensures i;
+      stringtable = c.read-3.ensures i;
+      groups = c.read-4.ensures i;
+      grouptable = c.read-5.ensures i;
+      granularity = returned w32 c.of_bits.type_inv (c.of_bits.ensures ∙ ap (twos 32) eg) i;
+      dategranularity = returned w32 c.of_bits-2.type_inv (c.of_bits-2.ensures ∙ ap (twos 32) ed) i;
+      latoffset = returned w64 c.of_bits-3.type_inv (c.of_bits-3.ensures ∙ ap (twos 64) c.read-6.ensures) i;
+      lonoffset = returned w64 c.of_bits-4.type_inv (c.of_bits-4.ensures ∙ ap (twos 64) c.read-7.ensures) i;
     })
     ∙ record-kept _ c.if-s-lt72.false eg ed (sym c.is_int32.ensures ∙ c.if-not-is_int32.false) (sym c.is_int32-2.ensures ∙ c.if-not-is_int32-2.false)

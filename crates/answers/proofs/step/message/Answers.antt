@@ -13,7 +13,7 @@ returns-in-Ended c = let a = c.args in
 
 pub returns-in-Outside : goal.returns-in-Outside
 returns-in-Outside c = let a = c.args in
-    let said = slot-steps a.buffer.now a.state.now a.out.now (sym c.messages_in-slot.ensures ∙ c.in-Outside.is) refl c.put_iter.ensures refl in record { code = said.0; next = said.1.0; after = said.1.1 }
+    let said = slot-steps a.buffer.now a.state.now a.out.now (sym c.messages_in-slot.ensures ∙ c.in-Outside.is) refl c.put.ensures refl in record { code = said.0; next = said.1.0; after = said.1.1 }
 
 pub returns-in-At : goal.returns-in-At
 returns-in-At c = let a = c.args in

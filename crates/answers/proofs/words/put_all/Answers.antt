@@ -13,7 +13,7 @@ pub offset_bounds-numbers-i : goal.offset_bounds-numbers-i
 offset_bounds-numbers-i c = omega (arith, c.loop-i.invariant.room)
 
 pub loop-i-preserved : goal.loop-i-preserved
-loop-i-preserved c = put_next c.loop-i.invariant (omega arith) c.write_u64.ensures
+loop-i-preserved c = put_next c.loop-i.invariant (omega arith) c.write.ensures
 
 pub shape_of-room : goal.shape_of-room
 shape_of-room c = put-length c.loop-i.invariant

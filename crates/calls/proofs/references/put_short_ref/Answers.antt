@@ -19,14 +19,14 @@ pub returns : goal.returns
 returns c =
     let slot = c.args.slot.now in
     let out = c.args.out.now in
-    let bits = as_word w64 c.wrapping_add_i64-sum.result c.wrapping_add_i64-sum.type_inv c.bits_i64-bits.ensures in
-    let before = returned w64 c.int64.type_inv (c.int64.ensures ∙ ap (twos 64) c.read_u64-before.ensures) in
-    let added = c.wrapping_add_i64-sum.ensures ∙ λ i. wrapping_add 64 (before i) (returned w64 c.zigzag_i64.type_inv c.zigzag_i64.ensures i) in
+    let bits = as_word w64 c.plus-sum.result c.plus-sum.type_inv c.bits-bits.ensures in
+    let before = returned w64 c.of_bits.type_inv (c.of_bits.ensures ∙ ap (twos 64) c.read-before.ensures) in
+    let added = c.plus-sum.ensures ∙ λ i. wrapping_add 64 (before i) (returned w64 c.of_zigzag.type_inv c.of_zigzag.ensures i) in
     record {
       by =
-          short_call _ slot out c.if-slot-lt32.false c.if-out-lt8.false c.read_u64.ensures c.if-read_u64-ne1.false
-          (record { at = c.read_u64-at.result; end = c.read_u64-end.result }) (λ i. record { at = c.read_u64-at.ensures i; end = c.read_u64-end.ensures i }) c.if-word-eq0.false c.wide_value-word.ensures
-          c.wrapping_add_i64-sum.result c.wrapping_add_i64-sum.type_inv added (omega arith)
-          (c.put_numbers-2.ensures ∙ ap (λ (n : ℕ). filled slot (1 ∷ (c.read_u64-at.result + c.wide_value-word.result % 16) ∷ c.read_u64-end.result ∷ n ∷ [])) bits)
+          short_call _ slot out c.if-slot-lt32.false c.if-out-lt8.false c.read.ensures c.if-read-ne1.false
+          (record { at = c.read-at.result; end = c.read-end.result }) (λ i. record { at = c.read-at.ensures i; end = c.read-end.ensures i }) c.if-word-eq0.false c.wide_value-word.ensures
+          c.plus-sum.result c.plus-sum.type_inv added (omega arith)
+          (c.put_numbers-2.ensures ∙ ap (λ (n : ℕ). filled slot (1 ∷ (c.read-at.result + c.wide_value-word.result % 16) ∷ c.read-end.result ∷ n ∷ [])) bits)
           (c.put_numbers.ensures ∙ ap (λ (n : ℕ). filled out (n ∷ [])) bits);
     }

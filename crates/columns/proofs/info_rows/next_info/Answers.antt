@@ -20,7 +20,7 @@ pub returns-in_err-timestamp-clause-says : goal.returns-in_err-timestamp-clause-
 returns-in_err-timestamp-clause-says c =
     let version = c.in_ok-version.was ∙ ap Ok c.in-Some.is in
     rw (handed_on _ c.from_residual-in_err-timestamp.ensures)
-    (sym (read_more _ _ (mapped-more _ (stepped _ _ c.next_value.ensures version) refl) ∙ read-cut _ _ (says (sum64_said _) c.next_sum64.ensures.says c.in_err-timestamp.was)))
+    (sym (read_more _ _ (mapped-more _ (stepped _ _ c.next_value.ensures version) refl) ∙ read-cut _ _ (says (sum64_said _) c.next.ensures.says c.in_err-timestamp.was)))
 
 pub returns-in_default-2 : goal.returns-in_default-2
 returns-in_default-2 c =
@@ -28,7 +28,7 @@ returns-in_default-2 c =
     let version = c.in_ok-version.was ∙ ap Ok c.in-Some.is in
     let timestamp = c.in_ok-timestamp.was ∙ ap Ok c.in_default-2.is in
     record {
-      says = sym (read_more _ _ (mapped-more _ (stepped _ _ c.next_value.ensures version) refl) ∙ read-ended _ _ (says (sum64_said _) c.next_sum64.ensures.says timestamp));
+      says = sym (read_more _ _ (mapped-more _ (stepped _ _ c.next_value.ensures version) refl) ∙ read-ended _ _ (says (sum64_said _) c.next.ensures.says timestamp));
       inside = λ h. (version-read (each-inside a.s.now a.columns h) (behind-inside _ _ c.next_value.ensures version)).so;
     }
 
@@ -38,8 +38,8 @@ returns-in_err-changeset-clause-says c =
     let timestamp = c.in_ok-timestamp.was ∙ ap Ok c.in-Some-2.is in
     rw (handed_on _ c.from_residual-in_err-changeset.ensures)
     (sym (read_more _ _ (mapped-more _ (stepped _ _ c.next_value.ensures version) refl)
-    ∙ read_more _ _ (says (sum64_said _) c.next_sum64.ensures.says timestamp)
-    ∙ read-cut _ _ (says (sum64_said _) c.next_sum64-2.ensures.says c.in_err-changeset.was)))
+    ∙ read_more _ _ (says (sum64_said _) c.next.ensures.says timestamp)
+    ∙ read-cut _ _ (says (sum64_said _) c.next-2.ensures.says c.in_err-changeset.was)))
 
 pub returns-in_default-3 : goal.returns-in_default-3
 returns-in_default-3 c =
@@ -49,9 +49,9 @@ returns-in_default-3 c =
     let changeset = c.in_ok-changeset.was ∙ ap Ok c.in_default-3.is in
     record {
       says = sym (read_more _ _ (mapped-more _ (stepped _ _ c.next_value.ensures version) refl)
-          ∙ read_more _ _ (says (sum64_said _) c.next_sum64.ensures.says timestamp)
-          ∙ read-ended _ _ (says (sum64_said _) c.next_sum64-2.ensures.says changeset));
-      inside = λ h. (timestamp-read (version-read (each-inside a.s.now a.columns h) (behind-inside _ _ c.next_value.ensures version)) (inside_at _ c.next_sum64.ensures.inside timestamp)).so;
+          ∙ read_more _ _ (says (sum64_said _) c.next.ensures.says timestamp)
+          ∙ read-ended _ _ (says (sum64_said _) c.next-2.ensures.says changeset));
+      inside = λ h. (timestamp-read (version-read (each-inside a.s.now a.columns h) (behind-inside _ _ c.next_value.ensures version)) (inside_at _ c.next.ensures.inside timestamp)).so;
     }
 
 pub returns : goal.returns
@@ -63,7 +63,7 @@ returns c =
     record {
       says = c.next_user.ensures.says
           ∙ sym (read_more _ _ (mapped-more _ (stepped _ _ c.next_value.ensures version) refl)
-          ∙ read_more _ _ (says (sum64_said _) c.next_sum64.ensures.says timestamp)
-          ∙ read_more _ _ (says (sum64_said _) c.next_sum64-2.ensures.says changeset));
-      inside = λ h. c.next_user.ensures.inside (changeset-read (timestamp-read (version-read (each-inside a.s.now a.columns h) (behind-inside _ _ c.next_value.ensures version)) (inside_at _ c.next_sum64.ensures.inside timestamp)) (inside_at _ c.next_sum64-2.ensures.inside changeset)).so;
+          ∙ read_more _ _ (says (sum64_said _) c.next.ensures.says timestamp)
+          ∙ read_more _ _ (says (sum64_said _) c.next-2.ensures.says changeset));
+      inside = λ h. c.next_user.ensures.inside (changeset-read (timestamp-read (version-read (each-inside a.s.now a.columns h) (behind-inside _ _ c.next_value.ensures version)) (inside_at _ c.next.ensures.inside timestamp)) (inside_at _ c.next-2.ensures.inside changeset)).so;
     }

@@ -14,7 +14,7 @@ returns-in_err-value-clause-says c = rw (handed_on _ c.from_residual.ensures) (s
 
 pub returns-in_default-clause-says : goal.returns-in_default-clause-says
 returns-in_default-clause-says c =
-    present-same (returned w32 c.int32-version.type_inv c.int32-version.ensures)
+    present-same (returned w32 c.of_bits-version.type_inv c.of_bits-version.ensures)
     ∙ sym (read-ended _ _ (mapped_end _ (stepped _ _ c.next_value.ensures (c.in_ok-value.was ∙ ap Ok c.in_default.is))))
 
 pub returns-in-Some : goal.returns-in-Some
@@ -22,7 +22,7 @@ returns-in-Some c =
     let a = c.args in
     let read = c.in_ok-value.was ∙ ap Ok c.in-Some.is in
     record {
-      says = present-same (returned w32 c.int32-version.type_inv c.int32-version.ensures)
+      says = present-same (returned w32 c.of_bits-version.type_inv c.of_bits-version.ensures)
           ∙ sym (read_more _ _ (mapped-more _ (stepped _ _ c.next_value.ensures read) refl));
       inside = λ h. (visible-read (each-inside a.s.now a.columns h) (behind-inside _ _ c.next_value.ensures read)).so;
     }

@@ -1,28 +1,29 @@
 -- `classify_group` asks of the first byte what `block_type` does.
-use mathlib.Core.Path.{refl, sym, ◌∙◌}
-use Rattle.groups.proofs.laws.Classify.{of_none, of-wire, of_field, other-field}
+use native.Mathlib.Omega.{arith}
+use mathlib.Core.Path.{sym, ◌∙◌}
+use Rattle.groups.specs.Classify.{block_type}
+use Rattle.groups.proofs.laws.Classify.{of_none, of_first, of_tag, other_tag}
 use Rattle.groups.proofs.classify.classify_group.Goals as goal
 
-pub returns-then-group-eq0 : goal.returns-then-group-eq0
-returns-then-group-eq0 c = sym (of_none _ c.if-group-eq0.true)
-
-pub returns-then-tag-ne2 : goal.returns-then-tag-ne2
-returns-then-tag-ne2 c = sym (of-wire _ c.if-group-eq0.false c.if-tag-ne2.true)
-
-pub returns-in-1 : goal.returns-in-1
-returns-in-1 c = sym (of_field _ c.if-group-eq0.false c.if-tag-ne2.false c.in-1.is)
-
-pub returns-in-2 : goal.returns-in-2
-returns-in-2 c = sym (of_field _ c.if-group-eq0.false c.if-tag-ne2.false c.in-2.is)
-
-pub returns-in-3 : goal.returns-in-3
-returns-in-3 c = sym (of_field _ c.if-group-eq0.false c.if-tag-ne2.false c.in-3.is)
-
-pub returns-in-4 : goal.returns-in-4
-returns-in-4 c = sym (of_field _ c.if-group-eq0.false c.if-tag-ne2.false c.in-4.is)
-
 pub returns-in_default : goal.returns-in_default
-returns-in_default c =
-    let none = c.in_default.in_default-own.rest in
-    sym (of_field _ c.if-group-eq0.false c.if-tag-ne2.false refl
-    ∙ other-field _ none.0.0.0.1 none.0.0.1 none.0.1 none.1)
+returns-in_default c = of_none _ c.in_default.ensures.value
+
+pub returns-in-10 : goal.returns-in-10
+unfolding block_type
+returns-in-10 c = of_tag _ c.in-Some.ensures.value c.in-10.is
+
+pub returns-in-18 : goal.returns-in-18
+unfolding block_type
+returns-in-18 c = of_tag _ c.in-Some.ensures.value c.in-18.is
+
+pub returns-in-26 : goal.returns-in-26
+unfolding block_type
+returns-in-26 c = of_tag _ c.in-Some.ensures.value c.in-26.is
+
+pub returns-in-34 : goal.returns-in-34
+unfolding block_type
+returns-in-34 c = of_tag _ c.in-Some.ensures.value c.in-34.is
+
+pub returns-in_default-2 : goal.returns-in_default-2
+returns-in_default-2 c =
+    sym (other_tag _ (λ e. omega arith) (λ e. omega arith) (λ e. omega arith) (λ e. omega arith)) ∙ of_first _ c.in-Some.ensures.value

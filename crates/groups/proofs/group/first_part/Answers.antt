@@ -1,5 +1,5 @@
 -- `first_part` is `first_part`: each turn looks at the field at the place where the loop stands, and passes over what is no such message.
-use mathlib.Core.Path.{sym, ap, ◌∙◌}
+use mathlib.Core.Path.{sym, ◌∙◌}
 use Rattle.groups.proofs.laws.Group.{seek_ends, seek_finds, seek_further}
 use Rattle.fields.proofs.laws.Parts.{left-falls, a_field, no_field}
 use Rattle.groups.proofs.group.first_part.Goals as goal

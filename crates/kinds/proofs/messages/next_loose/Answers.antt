@@ -1,41 +1,49 @@
 -- `next_loose` views the first message of the kind from the place on, and goes on behind its end.
-use Rattle.std.specs.Prelude.{Some, None, Ok}
-use Rattle.std.proofs.Common.{rules, arith}
-use mathlib.Core.Path.{◌≡◌, refl, sym, ap, ◌∙◌}
+use Rattle.std.specs.Prelude.{Ok}
+use Rattle.std.proofs.Common.{arith}
+use mathlib.Core.Path.{refl, sym, ap, ◌∙◌}
 use borrow.Author.Tests.{le-leb}
+use Rattle.protobuf.proofs.laws.Read.{handed_on}
 use Rattle.fields.specs.Outcome.{each}
+use Rattle.kinds.specs.Said.{loose_said, place_inside}
 use Rattle.kinds.proofs.laws.Loose.{Finds, finds, loose-ends, loose-outside, found-kept, found-refused}
 use Rattle.kinds.proofs.messages.next_loose.Goals as goal
-use Rattle.kinds.proofs.messages.next_loose.Goals.{In-Ok-Some}
+use Rattle.kinds.proofs.messages.next_loose.Goals.{In-Some}
 
-pub returns-in-Err : goal.returns-in-Err
-returns-in-Err c = record { says = sym (loose-outside _ c.args.m c.field_of.ensures c.step-step.ensures c.in-Err.is); inside = refl }
+pub returns-in_err-part : goal.returns-in_err-part
+returns-in_err-part c =
+    let r = handed_on _ c.from_residual.ensures in
+    record {
+      says = ap (loose_said c.args.buffer.now c.args.m) r ∙ sym (loose-outside _ c.args.m c.from.ensures c.step-step.ensures c.in_err-part.was);
+      inside = ap (place_inside c.args.m) r;
+    }
 
-pub returns-in-Ok-None : goal.returns-in-Ok-None
-returns-in-Ok-None c =
-    let said : c.step-step.result.said ≡ Ok None = search rules in
-    record { says = sym (loose-ends _ c.args.m c.field_of.ensures c.step-step.ensures said); inside = refl }
+pub returns-in_default : goal.returns-in_default
+returns-in_default c =
+    record { says = sym (loose-ends _ c.args.m c.from.ensures c.step-step.ensures (c.in_ok-part.was ∙ ap Ok c.in_default.is)); inside = refl }
 
 -- the message that the step found
-found : (c : In-Ok-Some) → Finds c.args.buffer.now c.args.m c.in-Ok-Some.part
-found c =
-    let said : c.step-step.result.said ≡ Ok (Some c.in-Ok-Some.part) = search rules in
-    finds _ c.args.m c.field_of.ensures c.step-step.ensures said
+found : (c : In-Some) → Finds c.args.buffer.now c.args.m c.in-Some.part
+found c = finds _ c.args.m c.from.ensures c.step-step.ensures (c.in_ok-part.was ∙ ap Ok c.in-Some.is)
 
 pub overflow_add-result : goal.overflow_add-result
-overflow_add-result c = let f = found (goal.at.overflow_add-result c).In-Ok-Some in omega (arith, f.room)
+overflow_add-result c = let f = found (goal.at.overflow_add-result c).In-Some in omega (arith, f.room)
 
 pub overflow_sub-result : goal.overflow_sub-result
-overflow_sub-result c = (found (goal.at.overflow_sub-result c).In-Ok-Some).behind
+overflow_sub-result c = (found (goal.at.overflow_sub-result c).In-Some).behind
 
-pub returns-in-Err-v : goal.returns-in-Err-v
+pub returns-in_err-element : goal.returns-in_err-element
 unfolding each
-returns-in-Err-v c =
-    let f = found (goal.at.returns-in-Err-v c).In-Ok-Some in
-    record { says = sym (found-refused f (sym c.view-v.ensures ∙ ap (each _) c.in-Err-v.is)); inside = refl }
+returns-in_err-element c =
+    let f = found (goal.at.returns-in_err-element c).In-Some in
+    let r = handed_on _ c.from_residual-in_err-element.ensures in
+    record {
+      says = ap (loose_said c.args.buffer.now c.args.m) r ∙ sym (found-refused f (sym c.view.ensures ∙ ap (each _) c.in_err-element.was));
+      inside = ap (place_inside c.args.m) r;
+    }
 
-pub returns-in-Ok : goal.returns-in-Ok
+pub returns : goal.returns
 unfolding each
-returns-in-Ok c =
-    let f = found (goal.at.returns-in-Ok c).In-Ok-Some in
-    record { says = sym (found-kept f (sym c.view-v.ensures ∙ ap (each _) c.in-Ok.is)); inside = le-leb _ _ f.within }
+returns c =
+    let f = found (goal.at.returns c).In-Some in
+    record { says = sym (found-kept f (sym c.view.ensures ∙ ap (each _) c.in_ok-element.was)); inside = le-leb _ _ f.within }

@@ -18,8 +18,8 @@ returns c = let a = c.args in
     let told = c.struct_told-1.given in
     put-behind a.out.now a.at (signed_word d.id ∷ signed_word d.lat ∷ signed_word d.lon ∷ d.tags.at ∷ d.tags.end ∷ []) (node_info_words d.info) (omega (arith, c.requires, info_most d.info))
     (rw (
-      as_word w64 d.id told.0.1 c.bits_i64.ensures,
-      as_word w64 d.lat told.1.0.1 c.bits_i64-2.ensures,
-      as_word w64 d.lon told.1.1.0.1 c.bits_i64-3.ensures,
+      as_word w64 d.id told.0.1 c.bits.ensures,
+      as_word w64 d.lat told.1.0.1 c.bits-2.ensures,
+      as_word w64 d.lon told.1.1.0.1 c.bits-3.ensures,
     ) at c.put_at.ensures)
     c.put_info.ensures

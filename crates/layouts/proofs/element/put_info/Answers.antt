@@ -18,10 +18,10 @@ returns-in-Row c = let i = c.in-Row.i in
     let told = c.struct_told-1.given in
     put_case node_info_words c.args.out.now c.args.at {known = info.Row i} (omega (arith, c.requires))
     (rw (
-      as_word w32 i.version told.0.1 c.bits_i32.ensures,
-      as_word w64 i.timestamp told.1.0.1 c.bits_i64.ensures,
-      as_word w64 i.changeset told.1.1.0.1 c.bits_i64-in-Row.ensures,
-      as_word w32 i.uid told.1.1.1.0.1 c.bits_i32-in-Row.ensures,
-      as_word w32 i.user told.1.1.1.1.0.1 c.bits_i32-in-Row-2.ensures,
+      as_word w32 i.version told.0.1 c.bits.ensures,
+      as_word w64 i.timestamp told.1.0.1 c.bits-in-Row.ensures,
+      as_word w64 i.changeset told.1.1.0.1 c.bits-in-Row-2.ensures,
+      as_word w32 i.uid told.1.1.1.0.1 c.bits-in-Row-3.ensures,
+      as_word w32 i.user told.1.1.1.1.0.1 c.bits-in-Row-4.ensures,
     ) at c.put_at-in-Row.ensures)
     c.in-Row.is

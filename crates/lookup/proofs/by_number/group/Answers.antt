@@ -1,7 +1,7 @@
 -- `group` makes the tests of `group_at`; the entry that it reads is inside because the whole table is.
 use native.Mathlib.Omega.{arith}
 use mathlib.Core.Path.{sym, ◌∙◌}
-use Rattle.lookup.proofs.laws.Lookup.{group-outside, group-past-count, group-range, group-refused}
+use Rattle.lookup.proofs.laws.Lookup.{group-outside, group-past-count, group-entry}
 use Rattle.lookup.proofs.laws.Scanned.{group_clauses}
 use Rattle.lookup.proofs.by_number.group.Goals as goal
 
@@ -11,10 +11,6 @@ returns-then-not-is_inside c = let said = group_clauses _ _ _ (group-outside _ _
 pub returns-then-block-index : goal.returns-then-block-index
 returns-then-block-index c = let said = group_clauses _ _ _ (group-past-count _ _ _ (omega arith)) in record { answer = said.0; scanned = said.1 }
 
-pub returns-then-not-part_fits : goal.returns-then-not-part_fits
-returns-then-not-part_fits c =
-    let said = group_clauses _ _ _ (group-refused _ _ _ (sym c.is_inside.ensures ∙ c.if-not-is_inside.false) (omega arith) c.entry_at-part.ensures (sym c.part_fits.ensures ∙ c.if-not-part_fits.true)) in record { answer = said.0; scanned = said.1 }
-
 pub returns : goal.returns
 returns c =
-    let said = group_clauses _ _ _ (group-range _ _ _ (sym c.is_inside.ensures ∙ c.if-not-is_inside.false) (omega arith) c.entry_at-part.ensures (sym c.part_fits.ensures ∙ c.if-not-part_fits.false)) in record { answer = said.0; scanned = said.1 }
+    let said = group_clauses _ _ _ (c.named.ensures ∙ group-entry _ _ _ (sym c.is_inside.ensures ∙ c.if-not-is_inside.false) (omega arith)) in record { answer = said.0; scanned = said.1 }

@@ -1,9 +1,10 @@
 -- `read_len_delimited` answers what `length_delimited` says: the varint's refusal is handed up, and its value is held against what is left.
 use native.Mathlib.Omega.{arith}
-use mathlib.Core.Path.{sym, ◌∙◌}
+use Rattle.std.proofs.Common.{Ok}
+use mathlib.Core.Path.{sym, ap, ◌∙◌}
 use Rattle.protobuf.proofs.laws.Read.{reached}
 use Rattle.protobuf.proofs.laws.Varint.{varint_reach}
-use Rattle.message.proofs.laws.Payload.{delimited_refused, delimited_past, delimited_taken}
+use Rattle.message.proofs.laws.Payload.{so_many, delimited_refused, delimited_past, delimited_taken}
 use Rattle.message.proofs.payload.read_len_delimited.Goals as goal
 
 pub returns-in_default : goal.returns-in_default
@@ -20,4 +21,4 @@ returns-then-s-start c =
 pub returns : goal.returns
 returns c =
     let e = sym c.read_varint-r.ensures ∙ c.in-Ok.is in
-    sym (delimited_taken _ _ e (omega (arith, reached (varint_reach _ _) e)))
+    ap Ok (so_many c.up_to.ensures) ∙ sym (delimited_taken _ _ e (omega (arith, reached (varint_reach _ _) e)))

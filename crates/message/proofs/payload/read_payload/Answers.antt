@@ -1,5 +1,5 @@
 -- `read_payload` parts the groups from the rest, as `payload` does; each part is its own function's promise.
-use native.Mathlib.Omega.{arith}
+use Rattle.std.proofs.Common.{Ok}
 use mathlib.Core.Path.{sym, ap, ◌∙◌}
 use Rattle.message.specs.Answers.{past}
 use Rattle.protobuf.proofs.laws.Read.{says, handed_on, goes_on, handed-up, reached}
@@ -17,8 +17,8 @@ returns-in_err-next c =
     handed_on _ c.from_residual.ensures
     ∙ sym (payload-group _ _ _ _ c.if-s-at.false c.if-wire-ne-SGROUP.false ∙ handed-up _ (says past c.skip_group.ensures c.in_err-next.was))
 
-pub overflow_sub-group : goal.overflow_sub-group
-overflow_sub-group c = omega (arith, reached (group_reach 16 _ _ _) (says past c.skip_group.ensures c.in_ok-next.was))
+pub up_to-requires : goal.up_to-requires
+up_to-requires c = (reached (group_reach 16 _ _ _) (says past c.skip_group.ensures c.in_ok-next.was)).0
 
 pub returns : goal.returns
-returns c = sym (payload-group _ _ _ _ c.if-s-at.false c.if-wire-ne-SGROUP.false ∙ goes_on _ (says past c.skip_group.ensures c.in_ok-next.was))
+returns c = ap Ok c.up_to.ensures ∙ sym (payload-group _ _ _ _ c.if-s-at.false c.if-wire-ne-SGROUP.false ∙ goes_on _ (says past c.skip_group.ensures c.in_ok-next.was))

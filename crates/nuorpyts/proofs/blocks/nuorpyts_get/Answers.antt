@@ -11,5 +11,5 @@ returns-then-out-lt16 c = let a = c.args in
 
 pub returns : goal.returns
 returns c = let a = c.args in
-    let said = get_clauses a.buffer.now a.rec.now a.out.now a.index c.well_formed.0.0 (got_answer a.out.now c.if-out-lt16.false (sym c.get_in-got.ensures) c.give_range.ensures.code c.give_range.ensures.after) in
+    let said = get_clauses a.buffer.now a.rec.now a.out.now a.index c.well_formed.0.0 (got_answer a.out.now c.if-out-lt16.false (sym c.get_in.ensures) c.give_range.ensures.code c.give_range.ensures.after) in
     record { code = said.0; after = said.1.0; scanned = said.1.1 }

@@ -1,6 +1,6 @@
 -- `check_relation` reads what every element has, and then roles, memids and types.
 use native.Mathlib.Omega.{arith}
-use mathlib.Core.Path.{refl, sym, ap, ◌∙◌}
+use mathlib.Core.Path.{refl, sym, ◌∙◌}
 use Rattle.fields.specs.Schema.{relation}
 use Rattle.views.specs.Relation.{relation_at}
 use Rattle.block.specs.Check.{check_members}

@@ -1,7 +1,6 @@
 -- `wide_value` serves what the varint before the column's end is, where its word fits.
 use native.Mathlib.Omega.{arith}
 use lib.Dec.{lit<}
-use lib.Seq.{length-take-le}
 use mathlib.Core.Path.{sym, ◌∙◌}
 use Rattle.protobuf.proofs.laws.Read.{reached}
 use Rattle.protobuf.proofs.laws.Varint.{varint_reach}
@@ -22,9 +21,6 @@ returns-then-s-end c = short-outside _ _ _ c.if-s-end.true
 
 pub returns-then-end-at : goal.returns-then-end-at
 returns-then-end-at c = short-behind _ _ _ c.if-s-end.false c.if-end-at.true
-
-pub slice_bounds-read_varint-end : goal.slice_bounds-read_varint-end
-slice_bounds-read_varint-end c = sym (length-take-le _ _ c.if-s-end.false)
 
 pub returns-in_default : goal.returns-in_default
 returns-in_default c = short-long _ _ _ c.if-end-at.false c.if-s-end.false c.if-byte-lt128.false

@@ -3,8 +3,8 @@ use mathlib.Core.Path.{sym, ◌∙◌}
 use Rattle.same.proofs.laws.Listing.{second-outside, first-before}
 use Rattle.same.proofs.listing.both_checked.Goals as goal
 
-pub returns-then-number : goal.returns-then-number
-returns-then-number c = second-outside c.in-Err.is c.in-Err-y.is (sym c.number.ensures ∙ c.if-number.true ∙ c.number-2.ensures)
+pub returns-then-eq : goal.returns-then-eq
+returns-then-eq c = second-outside c.in-Err.is c.in-Err-y.is (sym c.eq.ensures ∙ c.if-eq.true)
 
-pub returns-else-number : goal.returns-else-number
-returns-else-number c = first-before c.in-Err.is c.in-Err-y.is (λ e. c.if-number.false (c.number.ensures ∙ e ∙ sym c.number-2.ensures))
+pub returns-else-eq : goal.returns-else-eq
+returns-else-eq c = first-before c.in-Err.is c.in-Err-y.is (sym c.eq.ensures ∙ c.if-eq.false)

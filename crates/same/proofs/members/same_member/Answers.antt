@@ -8,7 +8,7 @@ use Rattle.elements.specs.Members.{role_at}
 use Rattle.walk.specs.Shows.{text_of}
 use Rattle.same.specs.Members.{same_roles}
 use Rattle.same.proofs.laws.Compared.{refuses, differs, goes_on}
-use Rattle.same.proofs.laws.Members.{roles-first}
+use Rattle.same.proofs.laws.Members.{ids-same, roles-first}
 use Rattle.same.proofs.members.same_member.Goals as goal
 use Rattle.same.proofs.members.same_member.Goals.{After-same_role}
 
@@ -27,4 +27,4 @@ pub returns-then-not-roles : goal.returns-then-not-roles
 returns-then-not-roles c = differs (compared (goal.at.returns-then-not-roles c).After-same_role) c.in_ok-roles.was _ c.if-not-roles.true ∙ roles-first _ _ _
 
 pub returns : goal.returns
-returns c = goes_on (compared (goal.at.returns c).After-same_role) c.in_ok-roles.was c.if-not-roles.false (ap Ok c.same_member_id.ensures) ∙ roles-first _ _ _
+returns c = goes_on (compared (goal.at.returns c).After-same_role) c.in_ok-roles.was c.if-not-roles.false (ap Ok (c.eq.ensures ∙ ids-same c.args.x.id c.args.y.id)) ∙ roles-first _ _ _

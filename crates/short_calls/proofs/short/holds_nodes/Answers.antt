@@ -8,8 +8,8 @@ use Rattle.short_calls.proofs.short.holds_nodes.Goals as goal
 pub returns-then-slot-lt272 : goal.returns-then-slot-lt272
 returns-then-slot-lt272 c e = absurd (true≢false (sym e))
 
-pub returns-then-read_u64-ne2 : goal.returns-then-read_u64-ne2
-returns-then-read_u64-ne2 c e = absurd (true≢false (sym e))
+pub returns-then-read-ne2 : goal.returns-then-read-ne2
+returns-then-read-ne2 c e = absurd (true≢false (sym e))
 
 pub returns : goal.returns
-returns c e = (c.if-slot-lt272.false, nodes-there _ c.read_u64.ensures c.if-read_u64-ne2.false c.read_u64-2.ensures (eqb-true _ _ e))
+returns c e = (c.if-slot-lt272.false, nodes-there _ c.read.ensures c.if-read-ne2.false c.read-2.ensures (eqb-true _ _ e))

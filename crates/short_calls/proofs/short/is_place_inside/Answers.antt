@@ -17,8 +17,8 @@ returns-in_default c e = absurd (true≢false (sym e))
 pub returns-then-not-is_inside : goal.returns-then-not-is_inside
 returns-then-not-is_inside c e = absurd (true≢false (sym e))
 
-pub returns-then-block-read_u64 : goal.returns-then-block-read_u64
-returns-then-block-read_u64 c e = absurd (true≢false (sym e))
+pub returns-then-block-read : goal.returns-then-block-read
+returns-then-block-read c e = absurd (true≢false (sym e))
 
 pub returns-then-not-part_fits : goal.returns-then-not-part_fits
 returns-then-not-part_fits c e = absurd (true≢false (sym e))
@@ -31,6 +31,6 @@ returns c e = let a = c.args in
       block = c.in-Ok.block;
       read = sym c.record_in-r.ensures ∙ c.in-Ok.is;
       tables = confirmed c.is_inside.ensures c.if-not-is_inside.false-raw;
-      group = also-true (lt-ltb (number_at 8 slot 16) c.in-Ok.block.groups (omega (arith, c.if-block-read_u64.false, c.read_u64.ensures))) (sym (λ j. leb (c.read_u64-2.ensures j + c.read_u64-3.ensures j) (length s)) ∙ confirmed c.part_fits.ensures c.if-not-part_fits.false-raw);
-      message = sym (λ j. leb (c.read_u64-4.ensures j + c.read_u64-5.ensures j) (length s)) ∙ sym c.part_fits-2.ensures ∙ e;
+      group = also-true (lt-ltb (number_at 8 slot 16) c.in-Ok.block.groups (omega (arith, c.if-block-read.false, c.read.ensures))) (sym (λ j. leb (c.read-2.ensures j + c.read-3.ensures j) (length s)) ∙ confirmed c.part_fits.ensures c.if-not-part_fits.false-raw);
+      message = sym (λ j. leb (c.read-4.ensures j + c.read-5.ensures j) (length s)) ∙ sym c.part_fits-2.ensures ∙ e;
     }

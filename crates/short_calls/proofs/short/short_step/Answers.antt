@@ -23,7 +23,7 @@ put_behind-requires c = let words : let a = c.args in
     (c.word_at-id.ensures, (c.word_at-lat.ensures, c.word_at-lon.ensures)) in
     let no_pairs : let a = c.args in zero_next a.buffer.now (nodes_at a.slot.now).columns.keyvals ≡ true =
     let a = c.args in
-    sym (λ i. zero_next a.buffer.now (record { at = c.read_u64.ensures i; end = c.read_u64-2.ensures i })) ∙ confirmed c.has_no_pairs.ensures c.if-not-has_no_pairs.false-raw in
+    sym (λ i. zero_next a.buffer.now (record { at = c.read.ensures i; end = c.read-2.ensures i })) ∙ confirmed c.has_no_pairs.ensures c.if-not-has_no_pairs.false-raw in
     let s = c.args.buffer.now in
     let d = nodes_at c.args.slot.now in (
       omega (arith, c.well_formed.0.0, word_within s d.columns.rows.ids.column c.if-id-eq0.false words.0),
@@ -41,7 +41,7 @@ returns c = let words : let a = c.args in
     (c.word_at-id.ensures, (c.word_at-lat.ensures, c.word_at-lon.ensures)) in
     let no_pairs : let a = c.args in zero_next a.buffer.now (nodes_at a.slot.now).columns.keyvals ≡ true =
     let a = c.args in
-    sym (λ i. zero_next a.buffer.now (record { at = c.read_u64.ensures i; end = c.read_u64-2.ensures i })) ∙ confirmed c.has_no_pairs.ensures c.if-not-has_no_pairs.false-raw in
+    sym (λ i. zero_next a.buffer.now (record { at = c.read.ensures i; end = c.read-2.ensures i })) ∙ confirmed c.has_no_pairs.ensures c.if-not-has_no_pairs.false-raw in
     let s = c.args.buffer.now in
     let slot = c.args.slot.now in
     let d = nodes_at slot in

@@ -11,6 +11,6 @@ use Rattle.answers.proofs.laws.Signed.{as_word}
 use Rattle.short_calls.proofs.short.sum_behind.Goals as goal
 
 pub returns : goal.returns
-returns c = let before = returned w64 c.int64-before.type_inv (c.int64-before.ensures ∙ ap (twos 64) c.read_u64.ensures) in
-    let added = c.wrapping_add_i64.ensures ∙ λ i. wrapping_add 64 (before i) (returned w64 c.zigzag_i64.type_inv c.zigzag_i64.ensures i) in
-    record { bits = as_word w64 c.wrapping_add_i64.result c.wrapping_add_i64.type_inv c.bits_i64.ensures ∙ ap signed_word added; held = subst (λ (x : ℤ). mag x < 2 ^ 63) added c.wrapping_add_i64.type_inv }
+returns c = let before = returned w64 c.of_bits-before.type_inv (c.of_bits-before.ensures ∙ ap (twos 64) c.read.ensures) in
+    let added = c.plus.ensures ∙ λ i. wrapping_add 64 (before i) (returned w64 c.of_zigzag.type_inv c.of_zigzag.ensures i) in
+    record { bits = as_word w64 c.plus.result c.plus.type_inv c.bits.ensures ∙ ap signed_word added; held = subst (λ (x : ℤ). mag x < 2 ^ 63) added c.plus.type_inv }

@@ -13,10 +13,10 @@ use Rattle.tag_calls.proofs.tags.put_texts.Goals as goal
 pub returns : goal.returns
 returns c =
     let a = c.args in
-    let start = c.read_u32-key_start.ensures in
-    let len = c.read_u32-key_len.ensures in
-    let start-2 = c.read_u32-value_start.ensures in
-    let len-2 = c.read_u32-value_len.ensures in
+    let start = c.read-key_start.ensures in
+    let len = c.read-key_len.ensures in
+    let start-2 = c.read-value_start.ensures in
+    let len-2 = c.read-value_len.ensures in
     record {
       by =
           record {

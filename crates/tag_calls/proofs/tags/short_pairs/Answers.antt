@@ -5,7 +5,7 @@ use lib.Dec.{lit≤}
 use Rattle.elements.specs.Tags.{tags_from}
 use Rattle.elements.specs.declared.tags.TagIter.TheVariants as iter
 use Rattle.tag_calls.specs.Tags.{tag_item}
-use Rattle.calls.proofs.laws.Calls.{run-begins, run-same, run_on}
+use Rattle.calls.proofs.laws.Items.{run-begins, run-same, run_on}
 use Rattle.columns.proofs.laws.Short.{word_within}
 use Rattle.tag_calls.proofs.laws.ShortTags.{texts-found, texts-missing, table-inside, pair_put}
 use Rattle.tag_calls.proofs.tags.short_pairs.Goals as goal

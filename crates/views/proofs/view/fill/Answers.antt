@@ -7,7 +7,7 @@ use Rattle.message.specs.Answers.{field_of}
 use Rattle.message.proofs.laws.Message.{field-within}
 use Rattle.fields.specs.Outcome.{each}
 use Rattle.fields.proofs.laws.Parts.{left-falls}
-use Rattle.views.proofs.laws.Slots.{begins, completed, no_more, not-stored, stored, in_room}
+use Rattle.views.proofs.laws.Slots.{begins, completed, no_more, passed, not-stored, stored, in_room}
 use Rattle.views.proofs.view.fill.Goals as goal
 
 pub loop-field-init : goal.loop-field-init
@@ -24,27 +24,34 @@ unfolding each
 returns g c = completed _ _ _ c.loop-field.invariant (says field_of c.next_field.ensures (c.in_ok-field.was ∙ ap Ok c.in_default.is))
 
 pub slot_in-requires : goal.slot_in-requires
-slot_in-requires g c = in_room _ c.rule-r.result _ c.in-Some.field.tag g.met.V.View.room c.place-k.ensures c.rule-r.ensures
+slot_in-requires g c = in_room _ c.in-Some-rule.rule _ c.in-Some.field.tag g.met.V.View.room c.place-k.ensures c.in-Some-rule.ensures
 
 pub store-requires : goal.store-requires
 store-requires g c =
-    (in_room _ c.rule-r.result _ c.in-Some.field.tag g.met.V.View.room c.place-k.ensures c.rule-r.ensures, c.loop-field.invariant.holds.size)
+    (in_room _ c.in-Some-rule.rule _ c.in-Some.field.tag g.met.V.View.room c.place-k.ensures c.in-Some-rule.ensures, c.loop-field.invariant.holds.size)
 
-pub overflow_add-base : goal.overflow_add-base
-overflow_add-base g c = omega (arith, field-within _ _ _ _ (says field_of c.next_field.ensures (c.in_ok-field.was ∙ ap Ok c.in-Some.is)))
+pub overflow_add-raw : goal.overflow_add-raw
+overflow_add-raw g c = omega (arith, field-within _ _ _ _ (says field_of c.next_field.ensures (c.in_ok-field.was ∙ ap Ok c.in-Some.is)))
 
 pub returns-in_err-x : goal.returns-in_err-x
 unfolding each
 returns-in_err-x g c = rw (handed_on c.from_residual-in_err-x.result c.from_residual-in_err-x.ensures)
-    (not-stored _ _ _ c.loop-field.invariant c.rule-r.result _ _ _ _ _ c.place-k.ensures (says field_of c.next_field.ensures (c.in_ok-field.was ∙ ap Ok c.in-Some.is))
-    c.rule-r.ensures c.slot_in.ensures c.put_slot.ensures c.in_err-x.was)
+    (not-stored _ _ _ c.loop-field.invariant c.in-Some-rule.rule _ _ _ _ _ c.place-k.ensures (says field_of c.next_field.ensures (c.in_ok-field.was ∙ ap Ok c.in-Some.is))
+    c.in-Some-rule.ensures c.slot_in.ensures c.put_slot.ensures c.in_err-x.was)
+
+pub loop-field-smaller-in_ok-x : goal.loop-field-smaller-in_ok-x
+loop-field-smaller-in_ok-x g c = left-falls _ _ (says field_of c.next_field.ensures (c.in_ok-field.was ∙ ap Ok c.in-Some.is))
+
+pub loop-field-preserved-in_ok-x : goal.loop-field-preserved-in_ok-x
+loop-field-preserved-in_ok-x g c =
+    let room = in_room _ c.in-Some-rule.rule _ c.in-Some.field.tag g.met.V.View.room c.place-k.ensures c.in-Some-rule.ensures in
+    rw c.store.ensures
+    (stored _ _ _ c.loop-field.invariant c.in-Some-rule.rule _ _ _ _ _ c.place-k.ensures (says field_of c.next_field.ensures (c.in_ok-field.was ∙ ap Ok c.in-Some.is))
+    c.in-Some-rule.ensures c.slot_in.ensures c.put_slot.ensures c.in_ok-x.was room)
 
 pub loop-field-smaller : goal.loop-field-smaller
 loop-field-smaller g c = left-falls _ _ (says field_of c.next_field.ensures (c.in_ok-field.was ∙ ap Ok c.in-Some.is))
 
 pub loop-field-preserved : goal.loop-field-preserved
 loop-field-preserved g c =
-    let room = in_room _ c.rule-r.result _ c.in-Some.field.tag g.met.V.View.room c.place-k.ensures c.rule-r.ensures in
-    rw c.store.ensures
-    (stored _ _ _ c.loop-field.invariant c.rule-r.result _ _ _ _ _ c.place-k.ensures (says field_of c.next_field.ensures (c.in_ok-field.was ∙ ap Ok c.in-Some.is))
-    c.rule-r.ensures c.slot_in.ensures c.put_slot.ensures c.in_ok-x.was room)
+    passed _ _ _ c.loop-field.invariant _ _ _ _ (says field_of c.next_field.ensures (c.in_ok-field.was ∙ ap Ok c.in-Some.is)) c.in_default-rule.ensures

@@ -1,5 +1,6 @@
 -- `advance` makes one turn after the other, each to a state that has the same ahead and is nearer to the end; among plain dense nodes it takes
 -- the next one, and goes on where they have ended.
+use Rattle.std.specs.Prelude.{Ok}
 use mathlib.Core.Path.{sym, ap, ◌∙◌}
 use Rattle.protobuf.proofs.laws.Read.{says}
 use Rattle.kinds.specs.Dense.{dense_said}
@@ -12,17 +13,17 @@ loop-state-init c = walk_begins c.requires.1
 
 -- ---- among plain dense nodes
 
-pub returns-in-Node : goal.returns-in-Node
-returns-in-Node c = let said = dense-says c.loop-state.invariant c.in-DenseNodes.is c.in-Node.next c.requires.0 (sym (ap (dense_step_inside c.args.buffer.now) c.in-Node.is) ∙ c.next_dense-d.ensures.inside) c.say_dense.ensures (says (dense_said c.args.buffer.now c.in-DenseNodes.nodes.columns) c.next_dense-d.ensures.says c.in-Node.is) in record { says = said.0; behind = said.1 }
+pub returns-in-Ok-Some : goal.returns-in-Ok-Some
+returns-in-Ok-Some c = let said = dense-says c.loop-state.invariant c.in-DenseNodes.is c.in-Ok-Some.next c.requires.0 (sym (ap (dense_step_inside c.args.buffer.now) (c.in-Ok-Some.is ∙ ap Ok c.in-Ok-Some.field-0-is)) ∙ c.next_dense.ensures.inside) c.say_dense.ensures (says (dense_said c.args.buffer.now c.in-DenseNodes.nodes.columns) c.next_dense.ensures.says (c.in-Ok-Some.is ∙ ap Ok c.in-Ok-Some.field-0-is)) in record { says = said.0; behind = said.1 }
 
-pub loop-state-smaller-in-Ended : goal.loop-state-smaller-in-Ended
-loop-state-smaller-in-Ended c = dense_nearer c.loop-state.invariant c.in-DenseNodes.is c.messages_of-state.ensures
+pub loop-state-smaller-in-Ok-None : goal.loop-state-smaller-in-Ok-None
+loop-state-smaller-in-Ok-None c = dense_nearer c.loop-state.invariant c.in-DenseNodes.is c.messages_of-state.ensures
 
-pub loop-state-preserved-in-Ended : goal.loop-state-preserved-in-Ended
-loop-state-preserved-in-Ended c = dense-on c.loop-state.invariant c.in-DenseNodes.is c.messages_of-state.ensures (says (dense_said c.args.buffer.now c.in-DenseNodes.nodes.columns) c.next_dense-d.ensures.says c.in-Ended.is)
+pub loop-state-preserved-in-Ok-None : goal.loop-state-preserved-in-Ok-None
+loop-state-preserved-in-Ok-None c = dense-on c.loop-state.invariant c.in-DenseNodes.is c.messages_of-state.ensures (says (dense_said c.args.buffer.now c.in-DenseNodes.nodes.columns) c.next_dense.ensures.says (c.in-Ok-None.is ∙ ap Ok c.in-Ok-None.field-0-is))
 
-pub returns-in-Refused : goal.returns-in-Refused
-returns-in-Refused c = let said = dense-refuses c.loop-state.invariant c.in-DenseNodes.is c.refuse.ensures (says (dense_said c.args.buffer.now c.in-DenseNodes.nodes.columns) c.next_dense-d.ensures.says c.in-Refused.is) in record { says = said.0; behind = said.1 }
+pub returns-in-Err : goal.returns-in-Err
+returns-in-Err c = let said = dense-refuses c.loop-state.invariant c.in-DenseNodes.is c.refuse.ensures (says (dense_said c.args.buffer.now c.in-DenseNodes.nodes.columns) c.next_dense.ensures.says c.in-Err.is) in record { says = said.0; behind = said.1 }
 
 -- ---- in any other state
 

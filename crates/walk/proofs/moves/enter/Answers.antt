@@ -2,7 +2,6 @@
 use Rattle.std.specs.Prelude.{Some, None, Ok}
 use Rattle.std.proofs.Common.{rules}
 use mathlib.Core.Path.{◌≡◌, sym, ap, ◌∙◌}
-use mathlib.Core.Bool.{true}
 use Rattle.protobuf.proofs.laws.Read.{says}
 use Rattle.walk.specs.Moves.{entry_ahead, entry_stands}
 use Rattle.walk.proofs.laws.Quiet.{quiet_out, quiet_refused}

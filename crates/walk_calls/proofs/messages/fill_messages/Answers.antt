@@ -38,7 +38,7 @@ returns-then-not-put_message c = fills_same (none-there _ _ _ _ _ _ _ c.put_mess
 found : (c : In-Ok-Some) → Finds c.args.buffer.now (at_place c.args.m c.loop-count.at) c.in-Ok-Some.part
 found c =
     let said : c.step-step.result.said ≡ Ok (Some c.in-Ok-Some.part) = search rules in
-    finds _ (at_place c.args.m c.loop-count.at) c.field_of-field.ensures c.step-step.ensures said
+    finds _ (at_place c.args.m c.loop-count.at) c.from-field.ensures c.step-step.ensures said
 
 pub overflow_add-at : goal.overflow_add-at
 overflow_add-at c = let f = found (goal.at.overflow_add-at c).In-Ok-Some in omega (arith, f.room)

@@ -4,7 +4,7 @@ use Rattle.fields.proofs.laws.Part.{confirmed}
 use Rattle.columns.proofs.laws.Inside.{also-true}
 use Rattle.walk.specs.declared.state.BlockElementsIter.TheVariants as walk
 use Rattle.walk.specs.Walk.{elements_from}
-use Rattle.calls.proofs.laws.Calls.{fill_begins}
+use Rattle.calls.proofs.laws.Items.{fill_begins}
 use Rattle.walk_calls.specs.Steps.{put_words}
 use Rattle.walk_calls.proofs.messages.put_messages_of.Goals as goal
 

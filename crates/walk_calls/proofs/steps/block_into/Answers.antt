@@ -2,14 +2,16 @@
 use mathlib.Core.Path.{refl, sym, ap, ◌∙◌}
 use Rattle.walk.specs.declared.state.BlockElementsIter.TheVariants as walk
 use Rattle.walk.specs.Walk.{elements_from}
-use Rattle.calls.proofs.laws.Calls.{fill_begins, call_ended, call_asks}
+use Rattle.calls.proofs.laws.Items.{fill_begins, call_ended, call_leaves}
 use Rattle.walk_slots.specs.Slot.{walk_words, walk_at, walk_by}
 use Rattle.walk_calls.specs.Steps.{put_words, walk_over}
 use Rattle.walk_calls.proofs.laws.Steps.{going_on}
 use Rattle.walk_calls.proofs.steps.block_into.Goals as goal
 
 pub returns-in-Ended : goal.returns-in-Ended
-returns-in-Ended c = call_ended _ put_words (elements_from _ _) 208 walk.Ended walk_at walk_words walk_over 272 _ _ _ c.requires.0 (sym (ap (walk_by _) c.in-Ended.is) ∙ c.phase_in-phase.ensures) refl
+returns-in-Ended c =
+    let said = call_ended _ put_words (elements_from _ _) 208 walk_at walk_words walk.Ended walk_over 272 _ _ _ c.requires.0 (sym (ap (walk_by _) c.in-Ended.is) ∙ c.phase_in-phase.ensures) refl in
+    record { called = said.0; counts = said.1 }
 
 pub nodes_into-requires : goal.nodes_into-requires
 nodes_into-requires c = record { in_bounds = c.requires; slot_value = sym (ap (walk_by _) c.in-DenseNodes.is) ∙ c.phase_in-phase.ensures }
@@ -19,5 +21,8 @@ messages_into-requires c = record { in_bounds = c.requires; m_value = sym (ap (w
 
 pub returns-in_default : goal.returns-in_default
 returns-in_default c = let i = c.state_into.ensures in
-    call_asks _ put_words (elements_from _ _) 208 walk.Ended walk_at walk_words walk_over 272 _ _ _ c.requires.0 c.walk_in-state.ensures i.put i.back (ap walk_over c.walk_in-state.ensures ∙ going_on _ c.phase_in-phase.result c.phase_in-phase.ensures c.in_default.not-Ended)
-    (i.fills.on _ _ (fill_begins put_words (elements_from _ _) 208 c.walk_in-state.result _ c.requires.1))
+    let said =
+    call_leaves _ put_words (elements_from _ _) 208 walk_at walk_words walk.Ended walk_over 272 _ _ _ c.requires.0 c.state_in-state.ensures
+    (ap walk_over c.state_in-state.ensures ∙ going_on _ c.phase_in-phase.result c.phase_in-phase.ensures c.in_default.not-Ended) i.run i.put i.back
+    (i.fills.on _ _ (fill_begins put_words (elements_from _ _) 208 c.state_in-state.result _ c.requires.1)) in
+    rw i.is (record { called = said.0; counts = said.1 })

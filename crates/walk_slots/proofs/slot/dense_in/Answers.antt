@@ -11,15 +11,15 @@ returns-then-not-full c = dense-plain _ c.args.full c.if-not-full.true-raw
 pub returns-then-not-is_int32 : goal.returns-then-not-is_int32
 returns-then-not-is_int32 c = ap (walk_by _) c.outside.ensures
     ∙ no-uid _ c.args.full c.if-not-full.false-raw
-    c.read_u64.ensures (refuted c.is_int32.ensures c.if-not-is_int32.true-raw)
+    c.read.ensures (refuted c.is_int32.ensures c.if-not-is_int32.true-raw)
 
 pub returns-then-not-is_int32-2 : goal.returns-then-not-is_int32-2
 returns-then-not-is_int32-2 c = ap (walk_by _) c.outside-then-not-is_int32-2.ensures
     ∙ no-user _ c.args.full c.if-not-full.false-raw
-    c.read_u64.ensures (confirmed c.is_int32.ensures c.if-not-is_int32.false-raw)
-    c.read_u64-2.ensures (refuted c.is_int32-2.ensures c.if-not-is_int32-2.true-raw)
+    c.read.ensures (confirmed c.is_int32.ensures c.if-not-is_int32.false-raw)
+    c.read-2.ensures (refuted c.is_int32-2.ensures c.if-not-is_int32-2.true-raw)
 
 pub returns : goal.returns
 returns c = dense-full _ c.args.full c.if-not-full.false-raw
-    c.read_u64.ensures (confirmed c.is_int32.ensures c.if-not-is_int32.false-raw)
-    c.read_u64-2.ensures (confirmed c.is_int32-2.ensures c.if-not-is_int32-2.false-raw)
+    c.read.ensures (confirmed c.is_int32.ensures c.if-not-is_int32.false-raw)
+    c.read-2.ensures (confirmed c.is_int32-2.ensures c.if-not-is_int32-2.false-raw)

@@ -20,10 +20,10 @@ returns c = let i = c.args.i in
     } in
     record {
       numbers = rw (
-        as_word w64 i.timestamp.sum held.timestamp.sum c.bits_i64.ensures,
-        as_word w64 i.changeset.sum held.changeset.sum c.bits_i64-2.ensures,
-        as_word w32 i.uid.sum held.uid.sum c.bits_i32.ensures,
-        as_word w32 i.user.sum held.user.sum c.bits_i32-2.ensures,
+        as_word w64 i.timestamp.sum held.timestamp.sum c.bits.ensures,
+        as_word w64 i.changeset.sum held.changeset.sum c.bits-2.ensures,
+        as_word w32 i.uid.sum held.uid.sum c.bits-3.ensures,
+        as_word w32 i.user.sum held.user.sum c.bits-4.ensures,
       );
       held = held;
     }

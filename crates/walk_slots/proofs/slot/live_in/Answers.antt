@@ -8,7 +8,7 @@ use Rattle.walk_slots.proofs.slot.live_in.Goals as goal
 
 pub returns-in-1 : goal.returns-in-1
 returns-in-1 c = let full = c.args.full in
-    (λ i. walk.Between (record { full = full; group = c.read_u64.ensures i })) ∙ live_between _ full c.in-1.is
+    (λ i. walk.Between (record { full = full; group = c.read.ensures i })) ∙ live_between _ full c.in-1.is
 
 pub returns-in-2 : goal.returns-in-2
 returns-in-2 c = c.dense_in.ensures ∙ live_dense _ c.args.full c.in-2.is

@@ -23,9 +23,9 @@ returns c = let d = c.args.d in
     } in
     record {
       numbers = rw (
-        as_word w64 d.columns.rows.ids.sum held.ids.sum c.bits_i64.ensures,
-        as_word w64 d.columns.rows.lats.sum held.lats.sum c.bits_i64-2.ensures,
-        as_word w64 d.columns.rows.lons.sum held.lons.sum c.bits_i64-3.ensures,
+        as_word w64 d.columns.rows.ids.sum held.ids.sum c.bits.ensures,
+        as_word w64 d.columns.rows.lats.sum held.lats.sum c.bits-2.ensures,
+        as_word w64 d.columns.rows.lons.sum held.lons.sum c.bits-3.ensures,
       );
       held = held;
     }

@@ -4,4 +4,4 @@ use Rattle.wire.proofs.laws.Tables.{entry-written}
 use Rattle.wire.proofs.tables.write_entry.Goals as goal
 
 pub returns : goal.returns
-returns c = entry-written _ _ _ (omega arith) c.write_u32.ensures c.write_u32-2.ensures
+returns c = entry-written _ _ _ (omega arith) c.write.ensures c.write-2.ensures

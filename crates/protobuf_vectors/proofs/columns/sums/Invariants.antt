@@ -1,8 +1,0 @@
--- `sums` ends since each turn leaves fewer steps.
-use Rattle.protobuf_vectors.proofs.columns.sums.Given as goal
-
-abbrev pub invariant-loop-left : goal.invariant-loop-left
-invariant-loop-left g l = Unit {0}
-
-abbrev pub decreases-loop-left : goal.decreases-loop-left
-decreases-loop-left g l = l.left

@@ -1,9 +1,0 @@
--- `put_bytes` is safe and ends. Nothing has to hold from turn to turn; the measure is what is left of the bytes. Assumes nothing.
-use Rattle.std.proofs.Common.{◌-◌, length}
-use Rattle.replay.proofs.text.put_bytes.Given as goal
-
-abbrev pub invariant-loop-i : goal.invariant-loop-i
-invariant-loop-i l = Unit {0}
-
-abbrev pub decreases-loop-i : goal.decreases-loop-i
-decreases-loop-i l = length l.s - l.i

@@ -1,0 +1,39 @@
+// An answer: its text, whose words each have a space before them, and the refusal that it is or ends with.
+use arrayvec::ArrayString;
+use protobuf::refusal::Refusal;
+use replaying::words::Code;
+use std::fmt;
+use std::fmt::{Display, Write};
+
+// The most bytes of an answer's text.
+pub(crate) const ROOM: usize = 2048;
+
+// The text as far as it is put. What does not fit is an error, and then the answer is no line's.
+pub(crate) type Text = ArrayString<ROOM>;
+
+// The refusal that an answer is or ends with.
+pub(crate) type Said = Result<Option<Refusal>, fmt::Error>;
+
+// Words that are no refusal.
+pub(crate) fn say<T: Display + Drop>(text: &mut Text, words: T) -> Said {
+    write!(text, " {words}")?;
+    Ok(None)
+}
+
+// What was found, behind a 0.
+pub(crate) fn accept<T: Display + Drop>(text: &mut Text, words: T) -> Said {
+    write!(text, " 0 {words}")?;
+    Ok(None)
+}
+
+// A refusal's number, as the whole answer or behind the steps that it ended.
+pub(crate) fn refuse(text: &mut Text, refusal: Refusal) -> Said {
+    write!(text, " {}", Code(refusal))?;
+    Ok(Some(refusal))
+}
+
+// A refusal ended the steps of a list.
+pub(crate) fn stop_steps(text: &mut Text, refusal: Refusal) -> Said {
+    text.write_str(" !")?;
+    refuse(text, refusal)
+}

@@ -1,0 +1,3 @@
+-- The laws that proofs here cite.
+pub mod Texts
+pub mod Parted

@@ -1,7 +1,0 @@
--- `turn` says what the step does, without what it hands out.
-use mathlib.Core.Path.{sym, ap}
-use Rattle.same.specs.Turns.{tag_turn}
-use Rattle.same.proofs.tags.turn.Goals as goal
-
-pub returns-in-Refused : goal.returns-in-Refused
-returns-in-Refused c = ap tag_turn (sym c.in-Refused.is)
