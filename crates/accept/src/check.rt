@@ -11,7 +11,8 @@ use lookup::by_number::{group, is_inside};
 use protobuf::refusal::Refusal;
 use wire::record::WireBlock;
 
-// 14 where an entry of the group table names a range that passes the buffer.
+// 14 where an entry of the group table names a range that passes the buffer. A `for` of its own, as `check_groups`: one over a closure would say
+// more than both.
 fn check_ranges(buffer: &[u8], block: WireBlock) -> Result<(), Refusal>
     requires { is_record_inside buffer.now block ≡ true }
     ensures { result ≡ all (inside_of buffer.now) (groups_in buffer.now block) }

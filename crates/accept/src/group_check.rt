@@ -108,6 +108,7 @@ fn check_loose(s: &[u8]) -> Result<(), Refusal>
     check_elements::<WireRelation>(s)
 }
 
+// A group: its dense message, and its nodes, ways and relations.
 pub(crate) fn check_group(s: &[u8]) -> Result<(), Refusal>
     ensures { result ≡ check_group s.now }
 {

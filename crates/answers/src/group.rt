@@ -9,7 +9,7 @@ use groups::classify::BlockType;
 use groups::group::{MessagePlace, WireMessageIter};
 use numbers::little::Little;
 
-// A state's bytes, and the phases of one.
+// A state's bytes, and the phases of one, which are met in `numbers` and `messages_in` alone.
 const STATE: usize = 40;
 
 const ENDED: u64 = 0;

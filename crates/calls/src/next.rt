@@ -23,7 +23,7 @@ fn stopped<W: Copy>(why: Stop, run: Run<W>) -> Result<Run<W>, Stop>
 }
 
 // As many items as there is room for, behind the first `first`. What a short way stops before is nearly always the end, which is told without a
-// step.
+// step. No `for`: the count moves by a run.
 fn fill_inside<S: Slot, I: Items<S>>(
     buffer: &[u8],
     opened: I::Opened,

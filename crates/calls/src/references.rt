@@ -160,7 +160,8 @@ impl Items<RefState> for Refs {
 }
 
 // The next reference by a short way over the slot itself. Where it serves, the reference is put and the slot holds the state behind it; else
-// nothing is written, and the call is made by the state.
+// nothing is written, and the call is made by the state. A bool, here and wherever a short way is tried: what is handed out stands in the
+// slices.
 fn put_short_ref(buffer: &[u8], slot: &mut [u8], out: &mut [u8]) -> bool
     ensures { Served (λ id. id) ref_item (refs_from buffer.now) 8 refs_at ref_words WayRefIter.Ended refs_over 32 (one_room 8 out.old) slot.old out.old result slot.new out.new }
 {

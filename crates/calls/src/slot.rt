@@ -11,7 +11,8 @@ use numbers::signed::Signed;
 use protobuf::column::Column;
 
 // The numbers of a state, and the state that numbers stand for. A slot whose numbers no state has is read as a state that is outside every
-// buffer, so that the step itself refuses it.
+// buffer, so that the step itself refuses it. A phase is a number where a slot is read or put, and in the short ways over a slot: an enum of
+// phases would be matched again at once.
 pub trait Slot {
     type State: Copy;
 

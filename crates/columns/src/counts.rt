@@ -22,6 +22,7 @@ pub fn count_values(s: &[u8], column: Column) -> Result<usize, Refusal>
 
 // Two counts that must be equal: the first one's refusal, then the second one's, then 12. Of three columns, the first with what the other two
 // agree on, so that all are read before 12 is given.
+// It is not `in_step`, which pairs values: this compares counts.
 pub fn agree(a: Result<usize, Refusal>, b: Result<usize, Refusal>) -> Result<usize, Refusal>
     ensures { result ≡ agreed a b }
 {

@@ -13,7 +13,7 @@ pub fn is_column_inside(s: &[u8], column: Column) -> bool
     column.at <= column.end && column.end <= s.len()
 }
 
-// Whether keys and vals are inside.
+// Whether keys and vals are inside. This and the three below name a struct's columns, in one expression each.
 pub fn are_tags_inside(s: &[u8], columns: TagColumns) -> bool
     ensures { result ≡ tags_inside s.now columns }
 {

@@ -1,4 +1,5 @@
-// Several columns of a message in step: a value of each at a time. All of them are read before their end, or 12, is told.
+// Several columns of a message in step: a value of each at a time. All of them are read before their end, or 12, is told. Each function names its
+// columns and what it makes of their values; what they share is `in_step`.
 ghost use Rattle.std.specs.Prelude.{◌≡◌, true};
 ghost use Rattle.columns.specs.Inside.{step_inside, tags_inside, members_inside, rows_inside};
 ghost use Rattle.columns.specs.Zip.{tags_ahead, tags_said, members_ahead, members_said, rows_ahead, rows_said};

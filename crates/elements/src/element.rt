@@ -15,6 +15,7 @@ pub struct DenseNodeInfo {
     pub visible: bool,
 }
 
+// What a walk shows of a dense node's metadata: three cases with names of their own, which C is told too.
 #[derive(Clone, Copy)]
 pub enum NodeInfo {
     // A plain walk reads no metadata.

@@ -32,13 +32,14 @@ pub struct RelMember {
     pub id: MemberId,
 }
 
+// A type of its own, since an Option has no methods but its own.
 #[derive(Clone, Copy)]
 pub enum RelMemberIter {
     Ended,
     Members(MemberColumns),
 }
 
-// An id by the member's type.
+// An id by the member's type, which stays a number where it is none of three: the format may have more types.
 fn member_id(kind: i32, id: i64) -> MemberId
     ensures { result ≡ id_by kind id }
 {

@@ -1,4 +1,5 @@
-// Positions in nanodegrees: offset + granularity × raw, wrapping at 64 bits. They refuse nothing.
+// Positions in nanodegrees: offset + granularity × raw, wrapping at 64 bits. They refuse nothing. Two names for one call: a function over both
+// would be lent the offset, and that is `nanodegrees` itself.
 ghost use Rattle.std.specs.Prelude.{◌≡◌};
 ghost use Rattle.numbers.specs.Signed.{nanodegrees_of};
 

@@ -10,6 +10,7 @@ use columns::sums::Sum;
 use fields::step::Step;
 use protobuf::refusal::Refusal;
 
+// A type of its own, since an Option has no methods but its own.
 #[derive(Clone, Copy)]
 pub enum WayRefIter {
     Ended,

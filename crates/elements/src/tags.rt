@@ -22,6 +22,7 @@ use protobuf::column::Column;
 use protobuf::refusal::Refusal;
 use wire::record::WireBlock;
 
+// Ended, or at one of two kinds of places: each case is met by its name.
 #[derive(Clone, Copy)]
 pub enum TagIter {
     Ended,

@@ -88,6 +88,7 @@ fn put_message(old: Slot, raw: Payload) -> Result<Slot, Refusal>
 }
 
 // One field's slot: of a number or of bytes, the last one stands.
+// Each arm binds what its case alone has.
 #[tactic(auto, unfolding(crate::specs::View::put))]
 pub fn put_slot(rule: Rule, old: Slot, raw: Payload) -> Result<Slot, Refusal>
     ensures { result ≡ put_by rule old raw }

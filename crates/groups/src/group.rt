@@ -14,7 +14,8 @@ use fields::step::Step;
 use message::field::{Field, NoField, next_field};
 use protobuf::refusal::Refusal;
 
-// Where an iteration over a group's messages of `field` stands: the group's range, and the place in it.
+// Where an iteration over a group's messages of `field` stands: the group's range, and the place in it. The field is the caller's number, any
+// that C gives. Two numbers and no Part, since a range is always there; numbers and no slice, since a state passes through C between calls.
 #[derive(Clone, Copy)]
 pub struct MessagePlace {
     pub start: usize,
@@ -176,7 +177,8 @@ impl WireMessageIter {
 
     // The next message of the state's field, as a part of the buffer, with the state behind it: 14 where the group passes the buffer or the
     // place passes the group. It says ended where no such message comes before the group's end or a wire error, which it does not tell.
-    // Behind ended and behind 14 the state is ended, and a step on it says ended whatever the buffer is.
+    // Behind ended and behind 14 the state is ended, and a step on it says ended whatever the buffer is. It moves within its place and hands on no
+    // column, so it shares no function with the steps of `elements`.
     pub fn step(self, buffer: &[u8]) -> Step<Part, WireMessageIter>
         ensures { result ≡ message_step buffer.now self }
     {

@@ -2,7 +2,7 @@
 use columns::zip::RowColumns;
 use protobuf::column::Column;
 
-// A group, by its number and the range that the table names for it.
+// A group, by its number and the range that the table names for it: two numbers and no Part, since a range is always there.
 #[derive(Clone, Copy)]
 pub struct GroupRangeAt {
     pub group: usize,
@@ -25,7 +25,7 @@ pub enum Loose {
     Relations,
 }
 
-// Among a group's messages of one kind, at a place in the group.
+// Among a group's messages of one kind, at a place in the group; `full` where the walk shows metadata, the one thing that two walks differ in.
 #[derive(Clone, Copy)]
 pub struct Messages {
     pub full: bool,

@@ -38,6 +38,7 @@ fn put_info(out: &mut [u8], at: usize, info: NodeInfo)
 }
 
 // Puts a dense node's own numbers.
+// The order of a dense node's numbers is written three times: from the node, from the columns' sums, from the slot.
 fn put_dense(out: &mut [u8], at: usize, d: DenseNode)
     requires { at + 96 ≤ length out.old }
     ensures { out.new ≡ written out.old at (words (dense_node_words d)) }
@@ -57,6 +58,7 @@ fn put_dense(out: &mut [u8], at: usize, d: DenseNode)
 }
 
 // Puts the numbers of an element's kind.
+// Each arm binds what its case alone has.
 fn put_own(out: &mut [u8], at: usize, element: Element)
     requires { at + 176 ≤ length out.old }
     ensures { out.new ≡ written out.old at (words (own_words element)) }
@@ -69,7 +71,7 @@ fn put_own(out: &mut [u8], at: usize, element: Element)
     }
 }
 
-// The number of an element's kind.
+// The number of an element's kind, as C has it: no `From`, which can't be written here for another crate's type.
 fn kind_number(element: Element) -> u64
     ensures { result ≡ kind_word element }
 {

@@ -73,21 +73,17 @@ impl Slot for MemberState {
         match state {
             RelMemberIter::Ended => put_numbers(slot, &[0, 0, 0, 0, 0, 0, 0, 0]),
             RelMemberIter::Members(c) => {
-                let roles = c.roles;
-                let memids = c.memids;
-                let types = c.types;
-                let ids = memids.column;
                 put_numbers(
                     slot,
                     &[
                         1,
-                        roles.at as u64,
-                        roles.end as u64,
-                        ids.at as u64,
-                        ids.end as u64,
-                        memids.sum.bits(),
-                        types.at as u64,
-                        types.end as u64,
+                        c.roles.at as u64,
+                        c.roles.end as u64,
+                        c.memids.column.at as u64,
+                        c.memids.column.end as u64,
+                        c.memids.sum.bits(),
+                        c.types.at as u64,
+                        c.types.end as u64,
                     ],
                 );
             }

@@ -51,6 +51,7 @@ impl From<NoField> for Refusal {
 }
 
 // A field by its tag's value and what its payload gave.
+// Its second arm tells the tag of what is spoilt, so it takes no `?`.
 fn field_by(
     tag: u32,
     payload: Result<(Payload, usize), Refusal>,

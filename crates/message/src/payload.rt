@@ -32,6 +32,7 @@ impl Payload {
 pub fn read_raw_varint(s: &[u8], at: usize) -> Result<(Payload, usize), Refusal>
     ensures { result ≡ raw_varint s.now at }
 {
+    // `let .. else`, since a varint's refusal is handed up at once by each reader of bytes (docs/DECISIONS.md).
     let r = read_varint(s, at);
     let Ok((value, next)) = r else {
         return Err(r.unwrap_err());
@@ -43,6 +44,7 @@ pub fn read_raw_varint(s: &[u8], at: usize) -> Result<(Payload, usize), Refusal>
 pub fn read_len_delimited(s: &[u8], at: usize) -> Result<(Payload, usize), Refusal>
     ensures { result ≡ length_delimited s.now at }
 {
+    // `let .. else`, since a varint's refusal is handed up at once by each reader of bytes (docs/DECISIONS.md).
     let r = read_varint(s, at);
     let Ok((value, start)) = r else {
         return Err(r.unwrap_err());
@@ -66,6 +68,7 @@ fn read_fixed(s: &[u8], at: usize, n: usize) -> Result<(Payload, usize), Refusal
 }
 
 // A payload where no group may be opened.
+// Each arm binds what its case alone has.
 fn read_single(s: &[u8], at: usize, wire: u32) -> Result<(Payload, usize), Refusal>
     requires { at ≤ length s.now }
     ensures { result ≡ value_by (group_by 0 s.now) s.now (wire_type wire) 0 at }

@@ -10,7 +10,7 @@ pub trait Little: Copy {
 
     ghost to_nat: { Self → ℕ };
 
-    // The number in the bytes from `at` on; 0 where they pass the end.
+    // The number in the bytes from `at` on; 0 where they pass the end: it is total, and what a slot's numbers mean rests on that 0.
     fn read(s: &[u8], at: usize) -> Self
         ensures { to_nat result ≡ number_at size s.now at };
 

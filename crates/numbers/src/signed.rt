@@ -98,7 +98,7 @@ pub fn is_int32(value: u64) -> bool
     value < 0x8000_0000 || 0xFFFF_FFFF_8000_0000 <= value
 }
 
-// The product, wrapping at 64 bits: of the halves' four products the highest is a multiple of 2^64.
+// The product, wrapping at 64 bits: of the halves' four products the highest is a multiple of 2^64. It is our own, as docs/DECISIONS.md says.
 fn wrapping_mul_u64(a: u64, b: u64) -> u64
     ensures { result ≡ (a * b) % 2 ^ 64 }
 {

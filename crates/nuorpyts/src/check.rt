@@ -18,7 +18,7 @@ fn check_in(buffer: &[u8], rec: &[u8]) -> Result<(), Refusal>
 }
 
 // Whether a scanned block may be walked: 0 where it may. 14 first where `rec` is no record; then the check's refusals. On the buffer and
-// the record that `nuorpyts_scan` left, the code is that of the block's own bytes.
+// the record that `nuorpyts_scan` left, the code is that of the block's own bytes. It has no slice to put an answer into.
 #[unsafe(no_mangle)]
 pub extern "C" fn nuorpyts_check(buffer: &[u8], rec: &[u8]) -> u32
     ensures code { result ≡ check_code buffer.now rec.now }

@@ -1,5 +1,6 @@
 // The functions that C calls. Numbers pass as themselves and byte slices as a pointer and a length; records, answers and states stand in
-// slices that the caller lends, as the crate `answers` lays them out (include/nuorpyts.h).
+// slices that the caller lends, as the crate `answers` lays them out (include/nuorpyts.h). Each answers its code as a number, since that is the
+// interface; within the library what stops a call is an enum.
 #![tactic(auto, unfolding(fields::specs::Outcome::onward))]
 
 pub mod blocks;

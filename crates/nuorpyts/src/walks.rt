@@ -36,7 +36,8 @@ pub extern "C" fn nuorpyts_walk_full(state: &mut [u8]) -> u32
 // The next element, with the state behind it: 14 where the slot is too short for a state, and 101 where it holds the ended one; both leave
 // it as it is. Else 14 where `out` is too short for an element or `rec` is no record, then what the step refuses, and 101 where there are no
 // more: the slot then holds the ended state, and `out` is as it was. The last clause is demand 3 through C: what whole chains of these calls
-// hand out, over this buffer and record and over any others of accepted blocks.
+// hand out, over this buffer and record and over any others of accepted blocks. The short way is tried in the entry itself: a function between
+// would copy the slices (docs/DECISIONS.md, Through C).
 #[unsafe(no_mangle)]
 pub extern "C" fn nuorpyts_step(buffer: &[u8], rec: &[u8], state: &mut [u8], out: &mut [u8]) -> u32
     ensures code { result ≡ call_code (walk_call buffer.now rec.now state.old (one_room 208 out.old)) }

@@ -1,4 +1,5 @@
-// Columns of a message, parts of its bytes, read whole: alone, or with counts that must be equal.
+// Columns of a message, parts of its bytes, read whole: alone, or with counts that must be equal. Each function is one call of
+// `agree` or `count_values`; counts are agreed on from behind, so a loop would run backwards.
 ghost use Rattle.std.specs.Prelude.{◌≡◌};
 ghost use Rattle.fields.specs.Outcome.{onward};
 ghost use Rattle.block.specs.Check.{passed, same_three, read_whole, check_tags, check_members, check_pairs};

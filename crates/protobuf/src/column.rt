@@ -16,10 +16,12 @@ pub struct Column {
 }
 
 // The value of a column that ends at `end`, by its varint, which may not pass that end.
+// Places count from the start of `s`, here and in the payloads, since they are handed out.
 fn long_value(s: &[u8], at: usize, end: usize) -> Result<Option<(u64, Column)>, Refusal>
     requires { end ≤ length s.now }
     ensures { result ≡ step_by end (or_cut (varint (take end s.now) at)) }
 {
+    // `let .. else`, since a varint's refusal is handed up at once by each reader of bytes (docs/DECISIONS.md).
     let r = read_varint(&s[..end], at);
     let Ok((value, next)) = r else {
         return Err(r.unwrap_err());

@@ -33,6 +33,7 @@ pub fn read_tag(s: &[u8], at: usize) -> Result<Option<(Tag, usize)>, Refusal>
     if at == s.len() {
         return Ok(None);
     }
+    // `let .. else`, since a varint's refusal is handed up at once by each reader of bytes (docs/DECISIONS.md).
     let r = read_varint(s, at);
     let Ok((value, next)) = r else {
         return Err(r.unwrap_err());

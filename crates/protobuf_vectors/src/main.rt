@@ -1,6 +1,7 @@
 // Runs the vectors of Protocol Buffers' encoding document, and document 01's examples for the wire reader, through the proved functions of
-// `protobuf`, and prints what each call answered: one line a case, with its label, its input and the outcome. No line holds an answer that
-// the program chose itself, so a reader that answers otherwise prints otherwise; the file `stdout` has what the documents say.
+// `protobuf`, `message` and `numbers`, and prints what each call answered: one line a case, with its label, its input and the outcome. No line holds an answer that
+// the program chose itself, so a reader that answers otherwise prints otherwise; the file `stdout` has what the documents say. Each module's `run`
+// names its own lists, in order.
 #![tactic(auto)]
 
 mod columns;

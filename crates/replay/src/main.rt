@@ -140,6 +140,7 @@ impl<W: Write> Replay<W> {
     }
 }
 
+// Each of the two programs opens its own list and starts its own replay.
 fn main(rt: HostRuntime) -> io::Result<()> {
     let mut report = io::writer(&rt);
     let mut buf = list_buffer();

@@ -15,6 +15,7 @@ use views::node::WireNode;
 use views::view::View;
 
 // Whether a part is the one that stands for none.
+// By its three numbers: a Part has no `==`.
 fn is_none(part: Part) -> bool {
     !part.present && part.start == 0 && part.len == 0
 }

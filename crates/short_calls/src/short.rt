@@ -1,6 +1,6 @@
 // A single call's short way: the next plain dense node by the slot's own numbers, with nothing between them and the bytes. Most calls that draw a
-// map are such. Each function here is called from one place and answers a number, so that all of it stays in registers (docs/DECISIONS.md,
-// Through C).
+// map are such. Each function here is called from `short_step` alone and hands on numbers, so that all of it stays in registers
+// (docs/DECISIONS.md, Through C).
 ghost use Rattle.std.specs.Prelude.{◌≡◌, true, [], ◌∷◌, ◌+◌, ◌/◌, ◌%◌, ◌^◌, ◌≤◌, ◌<◌, length};
 ghost use Rattle.std.specs.Int.Signed.{mag};
 ghost use Rattle.numbers.specs.Little.{number_at};

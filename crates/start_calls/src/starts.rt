@@ -32,7 +32,7 @@ fn is_part(element: &[u8], at: usize) -> bool
     u64::read(element, at) <= 1
 }
 
-// The reader at the start of a part.
+// The reader at the start of a part, whose numbers stand in an element and not in a slot.
 fn start_at(element: &[u8], at: usize) -> Column
     requires { at ≤ 160 }
     ensures { result ≡ start_of (part_at element.now at) }

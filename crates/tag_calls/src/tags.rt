@@ -178,7 +178,7 @@ impl Items<TagState> for Tags {
 }
 
 // Puts a tag by its two numbers, where both have a text inside the buffer: by where the string table stands and how many strings it has. Else
-// nothing is written.
+// nothing is written, and it says that it did not serve.
 fn put_texts(
     buffer: &[u8],
     table: usize,
@@ -225,7 +225,8 @@ fn put_texts(
     true
 }
 
-// Tags of keys and vals by a short way, from number `first` on, up to one that it does not serve.
+// Tags of keys and vals by a short way, from number `first` on, up to one that it does not serve. What differs from the other short way is all
+// there is: which columns, and how a pair ends.
 fn short_columns(
     buffer: &[u8],
     block: WireBlock,

@@ -66,6 +66,7 @@ fn say_dense(nodes: DenseNodeIter, columns: DenseColumns) -> ElementStep
 }
 
 // One turn of a state, which stays where it is among plain dense nodes.
+// Each arm binds what its case alone has.
 fn turn(buffer: &[u8], block: WireBlock, state: BlockElementsIter) -> Move
     requires { (is_record_inside buffer.now block ≡ true) × (state_inside buffer.now block state ≡ true) }
     ensures { Turns buffer.now block state result }

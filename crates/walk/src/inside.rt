@@ -55,7 +55,7 @@ fn messages_inside(buffer: &[u8], block: WireBlock, m: Messages) -> bool
     m.at <= m.of.len
 }
 
-// Whether a state is inside: 14 before anything is read where it is not.
+// Whether a state is inside: 14 before anything is read where it is not. Each arm binds what its case alone has.
 pub(crate) fn state_inside(buffer: &[u8], block: WireBlock, state: BlockElementsIter) -> bool
     ensures { result ≡ state_inside buffer.now block state }
 {

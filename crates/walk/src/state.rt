@@ -2,14 +2,14 @@
 use columns::info_rows::InfoColumns;
 use kinds::state::{DenseColumns, GroupRangeAt, Messages};
 
-// Before a group's number, which is the group count at the end.
+// Before a group's number, which is the group count at the end; `full` where the walk shows metadata.
 #[derive(Clone, Copy)]
 pub struct Between {
     pub full: bool,
     pub group: usize,
 }
 
-// The range of a message in the buffer.
+// The range of a message in the buffer: no Part, since it is always there, and so it is read back from a slot.
 #[derive(Clone, Copy)]
 pub struct Range {
     pub start: usize,
@@ -31,6 +31,7 @@ pub struct FullDenseNodeIter {
     pub infos: InfoColumns,
 }
 
+// The states of one walk, each with what it alone needs.
 #[derive(Clone, Copy)]
 pub enum BlockElementsIter {
     Ended,

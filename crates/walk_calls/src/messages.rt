@@ -148,7 +148,7 @@ fn put_view<V: Shown>(
     true
 }
 
-// A message of any kind.
+// A message of any kind: one match, which picks the view.
 fn put_message(
     buffer: &[u8],
     full: bool,

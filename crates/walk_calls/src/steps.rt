@@ -23,7 +23,7 @@ use calls::slot::Slot;
 use kinds::state::Messages;
 use layouts::element::put_element;
 use walk::block_elements::Said;
-use walk::state::BlockElementsIter;
+use walk::state::{BlockElementsIter, DenseNodeIter};
 use walk_slots::slot::{PhaseIn, WalkState, nodes_in, phase_in, put_messages, put_nodes};
 use wire::record::WireBlock;
 
@@ -106,9 +106,10 @@ fn nodes_into(
 {
     let nodes = nodes_in(slot);
     let f = put_nodes_of(buffer, block, nodes, out, most);
-    let columns = f.next;
-    let mut behind = nodes;
-    behind.columns = columns;
+    let behind = DenseNodeIter {
+        columns: f.next,
+        ..nodes
+    };
     if 0 < f.count {
         if f.count == most {
             put_nodes(slot, behind);
@@ -134,8 +135,7 @@ fn messages_into(
     ensures counts { counted result ≡ length (items_of (block_call buffer.now block slot.old most)) }
 {
     let f = put_messages_of(buffer, block, m, out, most);
-    let mut behind = m;
-    behind.at = f.next;
+    let behind = Messages { at: f.next, ..m };
     if 0 < f.count {
         if f.count == most {
             put_messages(slot, behind);
@@ -188,7 +188,7 @@ fn none_into(slot: &mut [u8]) -> Stop
 }
 
 // A call with room for `most` elements. It is not the one by a state in a slot, since the state of dense nodes and of messages is made only where
-// the room is not taken whole.
+// the room is not taken whole; and that one can't be a method which elements override, since the check refuses its bound.
 fn steps_into(
     buffer: &[u8],
     rec: &[u8],

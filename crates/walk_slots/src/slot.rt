@@ -140,6 +140,7 @@ fn dense_in(slot: &[u8], full: bool) -> PhaseIn
 }
 
 // The state of a phase that is not the ended one.
+// Each arm binds what its case alone has.
 fn live_in(slot: &[u8], phase: u64, full: bool) -> PhaseIn
     ensures { walk_by slot.now result ≡ live_at slot.now phase full }
 {
@@ -172,6 +173,7 @@ pub fn phase_in(slot: &[u8]) -> PhaseIn
     }
 }
 
+// A kind's phase: a number of the slot alone.
 fn loose_phase(kind: Loose) -> u64
     ensures { result ≡ loose_phase kind }
 {

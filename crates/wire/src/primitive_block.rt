@@ -38,6 +38,7 @@ fn granularity(value: u64) -> Result<u64, Refusal>
 }
 
 // One field, by its number with its wire type; any other pair is passed over. The last string table wins.
+// Each arm binds what its case alone has.
 fn store_block(v: BlockFields, field: Field) -> Result<BlockFields, Refusal>
     requires { v.groups + 1 < 2 ^ 64 }
     ensures stores { (slots : Slots) → v ≡ block_fields slots → result ≡ each block_fields (store primitive_block slots (field_by field.tag field.value field.start field.len)) }

@@ -1,4 +1,5 @@
-// The record of a scanned block, by value: WireBlockMeta of the Rust.
+// The record of a scanned block, by value: WireBlockMeta of the Rust. It holds no bytes: each call lends the buffer anew beside it, as a state
+// between two calls through C can hold none.
 
 #[derive(Clone, Copy)]
 pub struct WireBlock {

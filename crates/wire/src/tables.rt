@@ -9,6 +9,7 @@ use numbers::little::Little;
 
 // One entry, at the start of the tail that is lent: the lowest 4 bytes of each number, which are all that an offset or a length within a
 // block has.
+// Eight bytes an entry: the layout is the interface.
 fn write_entry(tail: &mut [u8], start: usize, len: usize)
     requires { 8 ≤ length tail.old }
     ensures { tail.new ≡ written tail.old 0 (entry start len) }

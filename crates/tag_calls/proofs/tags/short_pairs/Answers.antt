@@ -33,30 +33,6 @@ put_texts-requires c = table-inside c.args.buffer.now c.args.block c.requires.bl
 pub overflow_add-at : goal.overflow_add-at
 overflow_add-at c = omega (arith, word_within _ _ c.if-v-eq0.false c.wide_value-v.ensures)
 
-pub overflow_add-count : goal.overflow_add-count
-overflow_add-count c = omega arith
-
-pub loop-count-smaller : goal.loop-count-smaller
-loop-count-smaller c = omega arith
-
-pub shape_of-out-after-loop-count : goal.shape_of-out-after-loop-count
-shape_of-out-after-loop-count c = c.loop-count.invariant.0
-
-pub returns-after-loop-count : goal.returns-after-loop-count
-returns-after-loop-count c = c.loop-count.invariant.1
-
-pub shape_of-out-then-k-lt16 : goal.shape_of-out-then-k-lt16
-shape_of-out-then-k-lt16 c = c.loop-count.invariant.0
-
-pub returns-then-k-lt16 : goal.returns-then-k-lt16
-returns-then-k-lt16 c = c.loop-count.invariant.1
-
-pub shape_of-out-then-v-eq0 : goal.shape_of-out-then-v-eq0
-shape_of-out-then-v-eq0 c = c.loop-count.invariant.0
-
-pub returns-then-v-eq0 : goal.returns-then-v-eq0
-returns-then-v-eq0 c = c.loop-count.invariant.1
-
 pub shape_of-out-then-not-put_texts : goal.shape_of-out-then-not-put_texts
 shape_of-out-then-not-put_texts c = c.put_texts.auto.out ∙ c.loop-count.invariant.0
 

@@ -16,12 +16,6 @@ use Rattle.walk_calls.proofs.messages.fill_messages.Goals.{In-Ok-Some}
 pub loop-count-init : goal.loop-count-init
 loop-count-init c = elements_begin _ _ (walk.Messages c.args.m) c.requires
 
-pub shape_of-out-in_default : goal.shape_of-out-in_default
-shape_of-out-in_default c = c.loop-count.invariant.long
-
-pub returns-in_default : goal.returns-in_default
-returns-in_default c = c.loop-count.invariant.filling
-
 pub overflow_mul-count : goal.overflow_mul-count
 overflow_mul-count c = omega (arith, element-room _ _ c.loop-count.invariant c.loop-count-test.true)
 
@@ -46,20 +40,8 @@ overflow_add-at c = let f = found (goal.at.overflow_add-at c).In-Ok-Some in omeg
 pub overflow_sub-at : goal.overflow_sub-at
 overflow_sub-at c = (found (goal.at.overflow_sub-at c).In-Ok-Some).behind
 
-pub overflow_add-count : goal.overflow_add-count
-overflow_add-count c = omega arith
-
-pub loop-count-smaller : goal.loop-count-smaller
-loop-count-smaller c = omega arith
-
 pub loop-count-preserved : goal.loop-count-preserved
 loop-count-preserved c =
     let f = found (goal.at.loop-count-preserved c).In-Ok-Some in
     let there = message-there _ _ _ _ _ _ _ c.put_message.ensures (confirmed refl c.if-not-put_message.false-raw) in
     elements-on _ _ c.loop-count.invariant c.loop-count-test.true _ (message-onward _ (at_place c.args.m c.loop-count.at) f there.0 there.1.0) there.1.1
-
-pub shape_of-out : goal.shape_of-out
-shape_of-out c = c.loop-count.invariant.long
-
-pub returns : goal.returns
-returns c = c.loop-count.invariant.filling

@@ -7,23 +7,8 @@ use Rattle.walk_calls.proofs.nodes.fill_nodes.Goals as goal
 pub loop-count-init : goal.loop-count-init
 loop-count-init c = elements_begin _ _ _ c.requires
 
-pub shape_of-out-then-n-eq0 : goal.shape_of-out-then-n-eq0
-shape_of-out-then-n-eq0 c = c.loop-count.invariant.long
-
-pub returns-then-n-eq0 : goal.returns-then-n-eq0
-returns-then-n-eq0 c = c.loop-count.invariant.filling
-
 pub overflow_mul-count : goal.overflow_mul-count
 overflow_mul-count c = omega (arith, c.loop-count.invariant.room, c.loop-count.invariant.long, c.loop-count-test.true)
 
-pub loop-count-smaller : goal.loop-count-smaller
-loop-count-smaller c = omega arith
-
 pub loop-count-preserved : goal.loop-count-preserved
 loop-count-preserved c = elements-on _ _ c.loop-count.invariant c.loop-count-test.true _ (node-onward _ c.args.nodes c.loop-count.columns c.next_node-n.result c.next_node-n.ensures c.if-n-eq0.false) c.put_node.ensures
-
-pub shape_of-out : goal.shape_of-out
-shape_of-out c = c.loop-count.invariant.long
-
-pub returns : goal.returns
-returns c = c.loop-count.invariant.filling

@@ -7,9 +7,6 @@ use Rattle.walk_calls.proofs.laws.Steps.{elements_in}
 use Rattle.calls.proofs.laws.Items.{with-room}
 use Rattle.walk_calls.proofs.steps.next_step.Goals as goal
 
-pub steps_into-requires : goal.steps_into-requires
-steps_into-requires c = c.one_room-most.ensures.fits
-
 pub returns-in_err-steps_into : goal.returns-in_err-steps_into
 returns-in_err-steps_into c = let a = c.args in
     let p = with-room (walk_call a.buffer.now a.rec.now a.slot.now) c.one_room-most.ensures.is c.steps_into.ensures.called in

@@ -13,9 +13,6 @@ use Rattle.walk_calls.proofs.laws.Steps.{elements_in}
 use Rattle.calls.proofs.laws.Items.{with-room, count-none, count-put}
 use Rattle.walk_calls.proofs.steps.next_steps.Goals as goal
 
-pub steps_into-requires : goal.steps_into-requires
-steps_into-requires c = c.room_for-most.ensures.fits
-
 pub returns-in_err-items : goal.returns-in_err-items
 returns-in_err-items c = let a = c.args in
     let p = with-room (walk_call a.buffer.now a.rec.now a.slot.now) c.room_for-most.ensures.is c.steps_into.ensures.called in

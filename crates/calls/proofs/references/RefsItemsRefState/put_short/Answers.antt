@@ -48,20 +48,8 @@ overflow_add-at c = omega (arith, word_within _ _ c.if-word-eq0.false c.wide_val
 pub overflow_mul-count : goal.overflow_mul-count
 overflow_mul-count c = omega (arith, c.loop-count.invariant.0)
 
-pub overflow_add-count : goal.overflow_add-count
-overflow_add-count c = omega arith
-
-pub loop-count-smaller : goal.loop-count-smaller
-loop-count-smaller c = omega arith
-
-pub shape_of-out-after-loop-count : goal.shape_of-out-after-loop-count
-shape_of-out-after-loop-count c = c.loop-count.invariant.0
-
 pub returns-after-loop-count : goal.returns-after-loop-count
 returns-after-loop-count c = run-from ref_item (refs_from _) 8 (by_bits _ c.in-Refs.is (returned w64 {r = c.in-Refs.c.sum} c.struct_told-1.given.1.0.1 refl)) c.loop-count.invariant.1
-
-pub shape_of-out-then-word-eq0 : goal.shape_of-out-then-word-eq0
-shape_of-out-then-word-eq0 c = c.loop-count.invariant.0
 
 pub returns-then-word-eq0 : goal.returns-then-word-eq0
 returns-then-word-eq0 c = run-from ref_item (refs_from _) 8 (by_bits _ c.in-Refs.is (returned w64 {r = c.in-Refs.c.sum} c.struct_told-1.given.1.0.1 refl)) c.loop-count.invariant.1

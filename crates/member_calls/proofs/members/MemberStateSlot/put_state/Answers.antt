@@ -1,5 +1,6 @@
 -- `put_state` puts the numbers of the state, which are read back.
-use Prim.Native.Nat.{ℕ}
+use Prim.Native.Nat.{ℕ, ◌<◌, ◌^◌}
+use lib.Signed.{mag}
 use native.Mathlib.Omega.{arith}
 use mathlib.Core.Path.{ap, ◌∙◌}
 use mathlib.Core.List.{[], ◌∷◌}
@@ -17,8 +18,8 @@ returns-in-Ended c = let slot = c.args.slot.now in
 
 pub returns-in-Members : goal.returns-in-Members
 returns-in-Members c = let told = c.in-Members.known_told-1-own.given in
-    let sum = c.struct_told-1.given.1.0.1 in
     let v = c.in-Members.c in
+    let sum : mag v.memids.sum < 2 ^ 63 = omega arith in
     let slot = c.args.slot.now in
     let said = state_put members_at member_words 64 slot
     (c.put_numbers-in-Members.ensures

@@ -70,41 +70,20 @@ overflow_add-types c = omega (arith, word_within _ _ c.if-kind-eq0.false c.short
 pub overflow_add-count : goal.overflow_add-count
 overflow_add-count c = omega (arith, c.ranges.most)
 
-pub loop-count-smaller : goal.loop-count-smaller
-loop-count-smaller c = omega arith
-
-pub shape_of-out-after-loop-count : goal.shape_of-out-after-loop-count
-shape_of-out-after-loop-count c = c.loop-count.invariant.0
-
 pub returns-after-loop-count : goal.returns-after-loop-count
 returns-after-loop-count c = run-from member_item (members_from _ _) 32 (by_bits _ c.in-Members.is (returned w64 {r = c.in-Members.c.memids.sum} c.struct_told-1.given.1.0.1 refl)) (c.loop-count.invariant.1 _ (confirmed c.is_inside.ensures c.if-not-is_inside.false-raw))
-
-pub shape_of-out-then-role-eq0 : goal.shape_of-out-then-role-eq0
-shape_of-out-then-role-eq0 c = c.loop-count.invariant.0
 
 pub returns-then-role-eq0 : goal.returns-then-role-eq0
 returns-then-role-eq0 c = run-from member_item (members_from _ _) 32 (by_bits _ c.in-Members.is (returned w64 {r = c.in-Members.c.memids.sum} c.struct_told-1.given.1.0.1 refl)) (c.loop-count.invariant.1 _ (confirmed c.is_inside.ensures c.if-not-is_inside.false-raw))
 
-pub shape_of-out-then-id-eq0 : goal.shape_of-out-then-id-eq0
-shape_of-out-then-id-eq0 c = c.loop-count.invariant.0
-
 pub returns-then-id-eq0 : goal.returns-then-id-eq0
 returns-then-id-eq0 c = run-from member_item (members_from _ _) 32 (by_bits _ c.in-Members.is (returned w64 {r = c.in-Members.c.memids.sum} c.struct_told-1.given.1.0.1 refl)) (c.loop-count.invariant.1 _ (confirmed c.is_inside.ensures c.if-not-is_inside.false-raw))
-
-pub shape_of-out-then-kind-eq0 : goal.shape_of-out-then-kind-eq0
-shape_of-out-then-kind-eq0 c = c.loop-count.invariant.0
 
 pub returns-then-kind-eq0 : goal.returns-then-kind-eq0
 returns-then-kind-eq0 c = run-from member_item (members_from _ _) 32 (by_bits _ c.in-Members.is (returned w64 {r = c.in-Members.c.memids.sum} c.struct_told-1.given.1.0.1 refl)) (c.loop-count.invariant.1 _ (confirmed c.is_inside.ensures c.if-not-is_inside.false-raw))
 
-pub shape_of-out-then-role-gt2147483647 : goal.shape_of-out-then-role-gt2147483647
-shape_of-out-then-role-gt2147483647 c = c.loop-count.invariant.0
-
 pub returns-then-role-gt2147483647 : goal.returns-then-role-gt2147483647
 returns-then-role-gt2147483647 c = run-from member_item (members_from _ _) 32 (by_bits _ c.in-Members.is (returned w64 {r = c.in-Members.c.memids.sum} c.struct_told-1.given.1.0.1 refl)) (c.loop-count.invariant.1 _ (confirmed c.is_inside.ensures c.if-not-is_inside.false-raw))
-
-pub shape_of-out-then-kind-gt2 : goal.shape_of-out-then-kind-gt2
-shape_of-out-then-kind-gt2 c = c.loop-count.invariant.0
 
 pub returns-then-kind-gt2 : goal.returns-then-kind-gt2
 returns-then-kind-gt2 c = run-from member_item (members_from _ _) 32 (by_bits _ c.in-Members.is (returned w64 {r = c.in-Members.c.memids.sum} c.struct_told-1.given.1.0.1 refl)) (c.loop-count.invariant.1 _ (confirmed c.is_inside.ensures c.if-not-is_inside.false-raw))
