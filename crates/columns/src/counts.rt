@@ -4,7 +4,7 @@ ghost use Rattle.block.specs.Columns.{count_of};
 ghost use Rattle.block.specs.Check.{agreed};
 ghost use Rattle.columns.specs.InStep.{ahead};
 
-use protobuf::column::{Column, next_value};
+use protobuf::column::{Column, read_value};
 use protobuf::refusal::Refusal;
 
 // How many values a reader of a column has before it: 14 unless its state is inside the bytes, then 2 and 3 of its varints.
@@ -13,7 +13,7 @@ pub fn count_values(s: &[u8], column: Column) -> Result<usize, Refusal>
 {
     let mut n = 0;
     let mut at = column;
-    while let Some((_, next)) = next_value(s, at)? {
+    while let Some((_, next)) = read_value(s, at)? {
         n += 1;
         at = next;
     }

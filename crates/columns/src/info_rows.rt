@@ -7,7 +7,7 @@ ghost use Rattle.columns.specs.Zip.{infos_ahead, info_said};
 
 use crate::sums::Sum;
 use numbers::signed::Signed;
-use protobuf::column::{Column, next_value};
+use protobuf::column::{Column, read_value};
 use protobuf::refusal::Refusal;
 
 // The six columns of a DenseInfo; `user` is user_sid.
@@ -40,7 +40,7 @@ fn next_visible(
     let version = i32::of_bits(version);
     let mut read = columns;
     let mut visible = true;
-    if let Some((value, next)) = next_value(s, columns.visible)? {
+    if let Some((value, next)) = read_value(s, columns.visible)? {
         read.visible = next;
         visible = value != 0;
     }
@@ -75,7 +75,7 @@ pub fn next_info(s: &[u8], columns: InfoColumns) -> Result<(Option<Row>, InfoCol
     ensures inside { infos_inside s.now columns ≡ true → info_inside s.now result ≡ true }
 {
     let mut read = columns;
-    let Some((version, next)) = next_value(s, columns.version)? else {
+    let Some((version, next)) = read_value(s, columns.version)? else {
         return Ok((None, read));
     };
     read.version = next;

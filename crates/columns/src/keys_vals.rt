@@ -6,7 +6,7 @@ ghost use Rattle.columns.specs.InStep.{ahead};
 ghost use Rattle.columns.specs.Inside.{column_inside, tag_inside, behind_inside};
 ghost use Rattle.columns.specs.KeysVals.{value_of, next_tag, tag_said, behind_of};
 
-use protobuf::column::{Column, next_value};
+use protobuf::column::{Column, read_value};
 use protobuf::refusal::Refusal;
 
 // The value of a key, with the column behind it: 2 where the column has ended.
@@ -14,7 +14,7 @@ fn dense_value(s: &[u8], key: u64, column: Column) -> Result<(Option<(u64, u64)>
     ensures says { tag_said s.now result ≡ value_of key (ahead s.now column) }
     ensures inside { tag_inside s.now result ≡ true }
 {
-    let Some((value, next)) = next_value(s, column)? else {
+    let Some((value, next)) = read_value(s, column)? else {
         return Err(Refusal::VarintCut);
     };
     Ok((Some((key, value)), next))
@@ -25,7 +25,7 @@ pub fn next_dense_tag(s: &[u8], column: Column) -> Result<(Option<(u64, u64)>, C
     ensures says { tag_said s.now result ≡ next_tag (ahead s.now column) }
     ensures inside { column_inside s.now column ≡ true → tag_inside s.now result ≡ true }
 {
-    let Some((key, next)) = next_value(s, column)? else {
+    let Some((key, next)) = read_value(s, column)? else {
         return Ok((None, column));
     };
     if key == 0 {

@@ -1,4 +1,4 @@
-// One column: its reader at the start of a part. Its values are read one at a time by `next_value` of `protobuf`.
+// One column: its reader at the start of a part. Its values are read one at a time by `read_value` of `protobuf`.
 ghost use Rattle.std.specs.Prelude.{◌≡◌};
 ghost use Rattle.columns.specs.InStep.{start_of};
 

@@ -7,7 +7,7 @@ ghost use Rattle.columns.specs.Zip.{sums_ahead, sums_said};
 use crate::reader::start_column;
 use fields::part::Part;
 use numbers::signed::Signed;
-use protobuf::column::{Column, next_value};
+use protobuf::column::{Column, read_value};
 use protobuf::refusal::Refusal;
 
 // Where a reader of a column of differences stands, and the sum up to there: i64 of an sint64 column, i32 of an sint32 column.
@@ -34,7 +34,7 @@ impl<T: Signed> Sum<T> {
         ensures says { sums_said T.width T.to_int s.now result ≡ sums_ahead T.width T.to_int s.now self }
         ensures inside { step_inside (λ c. column_inside s.now c.column) result ≡ true }
     {
-        let Some((value, column)) = next_value(s, self.column)? else {
+        let Some((value, column)) = read_value(s, self.column)? else {
             return Ok(None);
         };
         let sum = self.sum.plus(T::of_zigzag(value));

@@ -7,7 +7,7 @@ ghost use Rattle.columns.specs.Zip.{tags_ahead, tags_said, members_ahead, member
 use crate::sums::Sum;
 use crate::told::in_step;
 use numbers::signed::Signed;
-use protobuf::column::{Column, next_value};
+use protobuf::column::{Column, read_value};
 use protobuf::refusal::Refusal;
 
 // Keys and vals of a node, a way or a relation.
@@ -38,8 +38,8 @@ pub fn next_tag(s: &[u8], columns: TagColumns) -> Result<Option<((u32, u32), Tag
     ensures says { tags_said s.now result ≡ tags_ahead s.now columns }
     ensures inside { step_inside (λ r. tags_inside s.now r.1) result ≡ true }
 {
-    let k = next_value(s, columns.keys);
-    let v = next_value(s, columns.vals);
+    let k = read_value(s, columns.keys);
+    let v = read_value(s, columns.vals);
     let Some(((key, keys), (value, vals))) = in_step(k, v)? else {
         return Ok(None);
     };
@@ -55,9 +55,9 @@ pub fn next_member(
     ensures says { members_said s.now result ≡ members_ahead s.now columns }
     ensures inside { step_inside (λ r. members_inside s.now r.1) result ≡ true }
 {
-    let r = next_value(s, columns.roles);
+    let r = read_value(s, columns.roles);
     let m = columns.memids.next(s);
-    let t = next_value(s, columns.types);
+    let t = read_value(s, columns.types);
     let Some(((role, roles), (memids, (kind, types)))) = in_step(r, in_step(m, t))? else {
         return Ok(None);
     };

@@ -1,6 +1,6 @@
 -- Worked values: what the definitions here say of concrete bytes, one row for each clause of document 01, section 2, that they carry. They are
 -- proved by computing, so a definition that is changed breaks the row of its clause, whatever the code does. Bytes are hexadecimal.
-use Rattle.std.specs.Prelude.{ℕ, ◌+◌, ◌-◌, ◌*◌, ◌^◌, ◌≡◌, refl, List, [], ◌∷◌, map, false, replicate, Ok, Err}
+use Rattle.std.specs.Prelude.{ℕ, ◌+◌, ◌-◌, ◌*◌, ◌^◌, ◌≡◌, refl, List, [], ◌∷◌, map, false, replicate, Ok, Err, None}
 use Rattle.protobuf.specs.declared.refusal.Refusal.TheVariants.{VarintCut, VarintLong, TagValue, WireType, PastEnd, GroupDepth, Granularity, SecondColumn, SecondInfo, Outside}
 use Rattle.numbers.specs.Choose.{choose}
 use Rattle.protobuf.specs.Refusal.{number}
@@ -14,7 +14,8 @@ use Rattle.fields.specs.declared.part.Part.{Part}
 use Rattle.fields.specs.Outcome.{Outcome, onward, each}
 use Rattle.fields.specs.Part.{part_by, no_part, moved, bytes_of, stands_at}
 use Rattle.fields.specs.Parts.{parts_of, messages_of}
-use Rattle.fields.specs.View.{Schema, Slots, column_part, info_part, put, store, view_from, view, view_in}
+use Rattle.fields.specs.Slot.{place_for, put_for}
+use Rattle.fields.specs.View.{Schema, Slots, slot_by, column_part, info_part, put, store, view_from, view, view_in}
 use Rattle.fields.specs.Schema.{primitive_block, string_table, node, way, relation, dense_nodes, dense_info, info}
 
 -- the part that stands for field k of a message
@@ -107,6 +108,9 @@ pub record Worked : Type 0 where
   pub stands-outside : stands_at (0x01 ∷ 0x02 ∷ 0x03 ∷ []) (4, 100) (part_by 2 2) ≡ (4, 100)
   pub moved-present : moved 5 (part_by 2 3) ≡ part_by 7 3
   pub moved-absent : moved 5 no_part ≡ no_part
+  -- a field that is passed over has place 0, and its slot stays
+  pub place-passed : place_for None ≡ 0
+  pub slot-passed : put_for None (slot_by 5 (part_by 1 2)) (record { value = 7; start = 3; len = 4 }) ≡ Ok (slot_by 5 (part_by 1 2))
 
 pub worked : Worked
 unfolding and_then digits varint legal tag tag_at raw_varint fixed counted length_delimited value_by field_in fields_of group_by payload unrolled field_at message_from onward each column_part info_part put store view_from view view_in parts_of messages_of bytes_of
@@ -161,4 +165,6 @@ worked =
       stands-outside = refl;
       moved-present = refl;
       moved-absent = refl;
+      place-passed = refl;
+      slot-passed = refl;
     }

@@ -1,6 +1,6 @@
 -- What an occurrence of a field does to its slot, by the rule that a view answers to its tag. The code keeps the slots in an array, by
 -- place.
-use Rattle.std.specs.Prelude.{ℕ, List, [], ◌∷◌, false, eqb, Option, Some, None}
+use Rattle.std.specs.Prelude.{ℕ, List, [], ◌∷◌, false, eqb, Option, Some, None, Ok}
 use Rattle.numbers.specs.Choose.{choose}
 use Rattle.message.specs.declared.payload.Payload.{Payload}
 use Rattle.protobuf.specs.declared.tag.Tag.{Tag}
@@ -45,3 +45,12 @@ put_by (rule.Scalar k) old p = put scalar old p
 put_by (rule.Column k) old p = put column old p
 put_by (rule.Message k) old p = put submessage old p
 put_by (rule.Bytes k) old p = put bytes old p
+
+-- the same of what a view answers: a field that is passed over has place 0, which no field has, and leaves its slot as it was
+abbrev pub place_for : Option Rule → ℕ
+place_for None = 0
+place_for (Some t) = place_of t
+
+abbrev pub put_for : Option Rule → Slot → Payload → Outcome Slot
+put_for None old p = Ok old
+put_for (Some t) old p = put_by t old p

@@ -2,7 +2,7 @@
 ghost use Rattle.std.specs.Prelude.{◌≡◌};
 ghost use Rattle.fields.specs.View.{column, submessage, put, slot_by};
 ghost use Rattle.fields.specs.Part.{part_by};
-ghost use Rattle.fields.specs.Slot.{put_by, place_of};
+ghost use Rattle.fields.specs.Slot.{put_for, place_of, place_for};
 
 use crate::part::Part;
 use message::payload::Payload;
@@ -87,16 +87,28 @@ fn put_message(old: Slot, raw: Payload) -> Result<Slot, Refusal>
     Err(Refusal::SecondInfo)
 }
 
-// One field's slot: of a number or of bytes, the last one stands.
+// One field's slot, by what a view makes of the field: of a number or of bytes, the last one stands, and a field that is passed over leaves it
+// as it was.
 // Each arm binds what its case alone has.
 #[tactic(auto, unfolding(crate::specs::View::put))]
-pub fn put_slot(rule: Rule, old: Slot, raw: Payload) -> Result<Slot, Refusal>
-    ensures { result ≡ put_by rule old raw }
+pub fn put_slot(rule: Option<Rule>, old: Slot, raw: Payload) -> Result<Slot, Refusal>
+    ensures { result ≡ put_for rule old raw }
 {
     match rule {
-        Rule::Column(_) => put_column(old, raw),
-        Rule::Message(_) => put_message(old, raw),
-        Rule::Scalar(_) => Ok(read_slot(raw)),
-        Rule::Bytes(_) => Ok(read_slot(raw)),
+        None => Ok(old),
+        Some(Rule::Column(_)) => put_column(old, raw),
+        Some(Rule::Message(_)) => put_message(old, raw),
+        Some(Rule::Scalar(_)) => Ok(read_slot(raw)),
+        Some(Rule::Bytes(_)) => Ok(read_slot(raw)),
+    }
+}
+
+// The place that a view's answer names: of a field that is passed over, 0, which no field has.
+pub fn place(rule: Option<Rule>) -> usize
+    ensures { result ≡ place_for rule }
+{
+    match rule {
+        None => 0,
+        Some(named) => named.place(),
     }
 }

@@ -88,5 +88,8 @@ pub extern "C" fn nuorpyts_group(buffer: &[u8], rec: &[u8], index: usize, out: &
     ensures answer { Answers 2 range_words out.old (group_in buffer.now rec.now index) result out.new }
     ensures scanned { (b : List ℕ) (n : ℕ) → Scanned-in buffer.now rec.now b n → Answers 2 range_words out.old (group_of (take n b) index) result out.new }
 {
+    if out.len() < 16 {
+        return OUTSIDE;
+    }
     put_answer::<2, Part>(out, group_in(buffer, rec, index))
 }

@@ -8,7 +8,7 @@ ghost use Rattle.answers.specs.Group.{part_words, kind_words};
 ghost use Rattle.answers.specs.Messages.{message_asked, message_code, message_state, message_out};
 ghost use Rattle.nuorpyts.specs.Group.{kind_in};
 
-use answers::codes::code;
+use answers::codes::{OUTSIDE, code};
 use answers::layout::put_answer;
 use answers::step::message;
 use fields::part::{Part, part_fits};
@@ -33,6 +33,9 @@ fn kind_in(buffer: &[u8], start: usize, len: usize) -> Result<BlockType, Refusal
 pub extern "C" fn nuorpyts_classify(buffer: &[u8], start: usize, len: usize, out: &mut [u8]) -> u32
     ensures { Answers 1 kind_words out.old (kind_in buffer.now start len) result out.new }
 {
+    if out.len() < 8 {
+        return OUTSIDE;
+    }
     put_answer(out, kind_in(buffer, start, len))
 }
 
@@ -42,6 +45,9 @@ pub extern "C" fn nuorpyts_classify(buffer: &[u8], start: usize, len: usize, out
 pub extern "C" fn nuorpyts_dense(buffer: &[u8], start: usize, len: usize, out: &mut [u8]) -> u32
     ensures { Answers 3 part_words out.old (each (moved start) (dense_in buffer.now start len)) result out.new }
 {
+    if out.len() < 24 {
+        return OUTSIDE;
+    }
     put_answer::<3, Part>(out, dense(buffer, start, len))
 }
 

@@ -5,6 +5,7 @@ ghost use Rattle.answers.specs.Codes.{Answers};
 ghost use Rattle.nuorpyts.specs.Chains.{Accepted-in};
 ghost use Rattle.nuorpyts.specs.Same.{same_in, same_words, SameTold};
 
+use answers::codes::OUTSIDE;
 use answers::layout::put_answer;
 use answers::record::record_in;
 use protobuf::refusal::Refusal;
@@ -34,5 +35,8 @@ pub extern "C" fn nuorpyts_same_listing(
     ensures answer { Answers 1 same_words out.old (same_in first.now a.now second.now b.now) result out.new }
     ensures decides { (b1 : List ℕ) (n1 : ℕ) (b2 : List ℕ) (n2 : ℕ) → 8 ≤ length out.old → Accepted-in first.now a.now b1 n1 → Accepted-in second.now b.now b2 n2 → SameTold (content (take n1 b1) ≡ content (take n2 b2)) out.old result out.new }
 {
+    if out.len() < 8 {
+        return OUTSIDE;
+    }
     put_answer(out, same_in(first, a, second, b))
 }

@@ -3,6 +3,7 @@ ghost use Rattle.std.specs.Prelude.{◌≡◌};
 ghost use Rattle.answers.specs.Codes.{Answers};
 ghost use Rattle.nuorpyts.specs.Walks.{nano_in};
 
+use answers::codes::OUTSIDE;
 use answers::layout::put_answer;
 use answers::record::record_in;
 use elements::positions::{nano_lat, nano_lon};
@@ -25,5 +26,8 @@ fn nano_in(rec: &[u8], lat: usize, lon: usize) -> Result<[u64; 2], Refusal>
 pub extern "C" fn nuorpyts_nanodegrees(rec: &[u8], lat: usize, lon: usize, out: &mut [u8]) -> u32
     ensures { Answers 2 (λ ws. ws) out.old (nano_in rec.now lat lon) result out.new }
 {
+    if out.len() < 16 {
+        return OUTSIDE;
+    }
     put_answer(out, nano_in(rec, lat, lon))
 }

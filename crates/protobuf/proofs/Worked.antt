@@ -12,7 +12,7 @@ use Rattle.protobuf.specs.Stream.{Stream, Item, end, more, last, item, unrolled,
 use Rattle.protobuf.specs.Short.{Short}
 use Rattle.numbers.specs.Signed.{signed, twos, unzigzag, zigzag, residue, wrap}
 use Rattle.protobuf.specs.Column.{ColumnEnd, ended, cut, value_at, column_from, column, int32s, uint32s, sint32s, sint64s, bools, sums_from, sums, step_at}
-use Rattle.protobuf.specs.Answers.{step_by}
+use Rattle.protobuf.specs.Answers.{step_by, told_by}
 
 -- the table of numbers that come back
 pub record Numbers : Type 0 where
@@ -157,8 +157,11 @@ types-worked =
 -- what the code's answers say
 pub record Said : Type 0 where
   pub a_step : step_by 9 (item 150 2) ≡ Ok (Some (150, record { at = 2; end = 9 }))
-  pub a_refused_step : step_by 9 (last (cut VarintCut)) ≡ Err VarintCut
+  pub a_refused-value : step_by 9 (last (cut VarintCut)) ≡ Err VarintCut
+  pub a_refused_step : told_by (step_by 9 (last (cut VarintCut))) ≡ record { said = Err VarintCut; next = record { at = 0; end = 0 } }
   pub an_ended_step : step_by 9 (last ended) ≡ Ok None
+  pub an_ended-state : told_by (step_by 9 (last ended)) ≡ record { said = Ok None; next = record { at = 0; end = 0 } }
+  pub a_step-goes-on : told_by (step_by 9 (item 150 2)) ≡ record { said = Ok (Some 150); next = record { at = 2; end = 9 } }
   pub a_word : (i : Item ℕ ColumnEnd) → Short i 3 82 → i ≡ item 5 5
   pub a_word-of-one_byte : (word : ℕ) → Short (item 5 4) 3 word → word ≡ 81
   pub no_word-at_the_end : (word : ℕ) → Short (last ended) 3 (suc word) → ⊥
@@ -167,8 +170,11 @@ pub said-worked : Said
 said-worked =
     record {
       a_step = refl;
+      a_refused-value = refl;
       a_refused_step = refl;
       an_ended_step = refl;
+      an_ended-state = refl;
+      a_step-goes-on = refl;
       a_word = λ i h. h.says (λ z. omega arith);
       a_word-of-one_byte = λ word h. h.serves 5 refl;
       no_word-at_the_end = λ word h. let e = h.says (λ z. omega arith) in let z : ◌≡◌ {A = ℕ} 0 1 = cc in omega arith;

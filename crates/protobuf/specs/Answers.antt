@@ -2,6 +2,7 @@
 use Rattle.std.specs.Prelude.{ℕ, Result, Ok, Err, Option, Some, None}
 use Rattle.protobuf.specs.declared.refusal.Refusal.{Refusal}
 use Rattle.protobuf.specs.declared.column.Column.{Column}
+use Rattle.protobuf.specs.declared.column.Step.{Step}
 use Rattle.protobuf.specs.Stream.{Item, last, item}
 use Rattle.protobuf.specs.Column.{ColumnEnd, ended, cut}
 
@@ -14,3 +15,9 @@ abbrev pub step_by : ℕ → Item ℕ ColumnEnd → Result (Option (ℕ × Colum
 step_by e (item value q) = Ok (Some (value, record { at = q; end = e }))
 step_by e (last ended) = Ok None
 step_by e (last (cut r)) = Err r
+
+-- the same as a step: what it says, and the next state, which at the end and behind a refusal is the ended one
+abbrev pub told_by : Result (Option (ℕ × Column)) Refusal → Step
+told_by (Ok (Some (value, next))) = record { said = Ok (Some value); next = next }
+told_by (Ok None) = record { said = Ok None; next = over }
+told_by (Err r) = record { said = Err r; next = over }

@@ -2,7 +2,7 @@
 ghost use Rattle.std.specs.Prelude.{◌≡◌, ◌≤◌, length, take};
 ghost use Rattle.protobuf.specs.Varint.{varint};
 ghost use Rattle.protobuf.specs.Column.{or_cut, step_at};
-ghost use Rattle.protobuf.specs.Answers.{step_by};
+ghost use Rattle.protobuf.specs.Answers.{over, step_by, told_by};
 ghost use Rattle.protobuf.specs.Short.{Short};
 
 use crate::refusal::Refusal;
@@ -13,6 +13,13 @@ use crate::varint::read_varint;
 pub struct Column {
     pub at: usize,
     pub end: usize,
+}
+
+// What a reader says, and its next state. At the end and behind a refusal that is the state that has ended in every buffer.
+#[derive(Clone, Copy)]
+pub struct Step {
+    pub said: Result<Option<u64>, Refusal>,
+    pub next: Column,
 }
 
 // The value of a column that ends at `end`, by its varint, which may not pass that end.
@@ -32,7 +39,7 @@ fn long_value(s: &[u8], at: usize, end: usize) -> Result<Option<(u64, Column)>, 
 // The next value of a column with the state behind it, and none at the end: 14 unless the state is inside the bytes (at ≤ end ≤ length), then
 // 2 and 3 of the varint, which may not pass the column's end.
 #[inline(always)]
-pub fn next_value(s: &[u8], column: Column) -> Result<Option<(u64, Column)>, Refusal>
+pub fn read_value(s: &[u8], column: Column) -> Result<Option<(u64, Column)>, Refusal>
     ensures { result ≡ step_by column.end (step_at s.now column.at column.end) }
 {
     let at = column.at;
@@ -61,7 +68,29 @@ pub fn next_value(s: &[u8], column: Column) -> Result<Option<(u64, Column)>, Ref
     long_value(s, at, end)
 }
 
-// The next value of a column by a short way, for loops that fall back on `next_value`: where it has at most three bytes, 16 times the value
+// A step that no value is told by: the state behind it has ended in every buffer.
+fn ended(said: Result<Option<u64>, Refusal>) -> Step
+    ensures { result ≡ record { said = said; next = over } }
+{
+    let next = Column { at: 0, end: 0 };
+    Step { said, next }
+}
+
+// The same as a step, for a reader that goes on from whatever state it is handed: a refusal ends it.
+pub fn next_value(s: &[u8], column: Column) -> Step
+    ensures { result ≡ told_by (step_by column.end (step_at s.now column.at column.end)) }
+{
+    match read_value(s, column) {
+        Err(refusal) => ended(Err(refusal)),
+        Ok(None) => ended(Ok(None)),
+        Ok(Some((value, next))) => Step {
+            said: Ok(Some(value)),
+            next,
+        },
+    }
+}
+
+// The next value of a column by a short way, for loops that fall back on `read_value`: where it has at most three bytes, 16 times the value
 // and how many bytes it has, else 0. One word comes back in a register, and the way is short enough to stand in its callers' loops.
 pub fn short_value(s: &[u8], at: usize, end: usize) -> u64
     ensures { Short (step_at s.now at end) at result }

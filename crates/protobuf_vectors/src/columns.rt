@@ -1,9 +1,9 @@
-// Columns (Protocol Buffers, "Packed Repeated Fields"): each value with the place behind it, up to the end. A refusal ends a column: the steps go
-// on from the state that has ended in every buffer.
+// Columns (Protocol Buffers, "Packed Repeated Fields"): each value with the place behind it, up to the end. The steps go on from the state
+// that a refusal hands back too, which shows that it is an ended one.
 use crate::out::{Answer, Case, lines};
 use message::payload::read_len_delimited;
 use numbers::signed::Signed;
-use protobuf::column::{Column, next_value};
+use protobuf::column::{Column, Step, next_value};
 use std::io::Write;
 use std::{fmt, io};
 
@@ -19,17 +19,13 @@ impl fmt::Display for Steps<'_> {
     fn fmt<W: fmt::Write>(&self, f: &mut fmt::Formatter<W>) -> fmt::Result {
         let mut column = self.column;
         for _ in 0..self.s.len() + 2 {
-            match next_value(self.s, column) {
-                Ok(Some((value, next))) => {
-                    write!(f, " {value} (next {}),", next.at)?;
-                    column = next;
-                }
+            let Step { said, next } = next_value(self.s, column);
+            match said {
+                Ok(Some(value)) => write!(f, " {value} (next {}),", next.at)?,
                 Ok(None) => return f.write_str(" ended"),
-                Err(refusal) => {
-                    write!(f, " refused {},", u32::from(refusal))?;
-                    column = Column { at: 0, end: 0 };
-                }
+                Err(refusal) => write!(f, " refused {},", u32::from(refusal))?,
             }
+            column = next;
         }
         Ok(())
     }
@@ -65,7 +61,8 @@ impl fmt::Display for Sums<'_> {
         let mut column = Column { at: 0, end };
         let mut sum = 0;
         for _ in 0..end {
-            let Ok(Some((value, next))) = next_value(self.0, column) else {
+            let Step { said, next } = next_value(self.0, column);
+            let Ok(Some(value)) = said else {
                 break;
             };
             sum = sum.plus(i64::of_zigzag(value));

@@ -8,8 +8,34 @@ use std::fmt::{Display, Write};
 // The most bytes of an answer's text.
 pub(crate) const ROOM: usize = 2048;
 
-// The text as far as it is put. What does not fit is an error, and then the answer is no line's.
-pub(crate) type Text = ArrayString<ROOM>;
+// The text as far as there is room for it. What does not fit is dropped and is no error, so the steps of a list go on behind it.
+#[derive(Drop)]
+pub(crate) struct Text(ArrayString<ROOM>);
+
+impl Text {
+    pub(crate) fn new() -> Text {
+        Text(ArrayString::new())
+    }
+
+    pub(crate) fn clear(&mut self) {
+        self.0.clear();
+    }
+
+    pub(crate) fn as_str(&self) -> &str {
+        self.0.as_str()
+    }
+}
+
+// All that is written is ASCII, so it may be cut behind any byte. A short word that fits is written by itself, since its length is then known
+// where it is written.
+impl Write for Text {
+    fn write_str(&mut self, s: &str) -> fmt::Result {
+        match s.get(..self.0.remaining_capacity()) {
+            Some(fits) => self.0.write_str(fits),
+            None => self.0.write_str(s),
+        }
+    }
+}
 
 // The refusal that an answer is or ends with.
 pub(crate) type Said = Result<Option<Refusal>, fmt::Error>;

@@ -7,7 +7,8 @@ use crate::kind::Kind;
 use crate::leaf::{ask_column, ask_field, ask_varint};
 use crate::messages::{Message, ask_view};
 use crate::question::Question;
-use replaying::list::{BYTES, decode};
+use protobuf::refusal::Refusal;
+use replaying::list::{BYTES, decode, is_lower};
 use views::dense_info::WireDenseInfo;
 use views::dense_nodes::WireDenseNodes;
 use views::info::WireInfo;
@@ -16,10 +17,14 @@ use views::relation::WireRelation;
 use views::way::WireWay;
 use wire::record::WireBlock;
 
+// How far ahead of the bytes the array begins where a question is asked again.
+pub(crate) const AHEAD: usize = 5;
+
+// What was answered to the last question that was asked: its text, and the refusal that it is or ends with.
 #[derive(Drop)]
 pub(crate) struct Answer {
     pub(crate) text: Text,
-    pub(crate) said: Said,
+    pub(crate) refusal: Option<Refusal>,
 }
 
 // The `len` bytes from `start`.
@@ -79,33 +84,50 @@ fn ask_at(text: &mut Text, question: &Question, buf: &mut [u8], start: usize, le
     }
 }
 
-// A question whose bytes stand at `ahead`, a block's at the start. No text where the bytes cannot be read.
+// Puts a question's bytes from `start` on, and says how many there are: none where they cannot be read.
+fn put_bytes(buf: &mut [u8], start: usize, digits: &[u8]) -> Option<usize> {
+    let room = buf.get_mut(start..start.saturating_add(BYTES))?;
+    if is_lower(digits) {
+        decode(digits, room)
+    } else {
+        None
+    }
+}
+
+// A question whose bytes stand at `ahead`, a block's at the start. No text where they cannot be read. It is asked on the first `BYTES` of the
+// array: of bytes that pass those, which the array has room for, it is asked on none.
 fn ask(text: &mut Text, question: &Question, ahead: usize) -> Said {
-    let mut buf = [0xa5u8; BYTES];
+    let mut buf = [0xa5u8; BYTES + AHEAD];
     let start = if question.kind.is_on_block() {
         0
     } else {
         ahead
     };
-    let Some(room) = buf.get_mut(start..) else {
-        return Ok(None);
-    };
-    match decode(question.digits, room) {
-        Some(len) => ask_at(text, question, &mut buf, start, len),
-        None => Ok(None),
+    let len = put_bytes(&mut buf, start, question.digits);
+    match (len, buf.get_mut(..BYTES)) {
+        (Some(len), Some(first)) => ask_at(text, question, first, start, len),
+        _ => Ok(None),
     }
 }
 
 impl Answer {
-    // What is answered to a question whose bytes stand at `ahead`.
-    pub(crate) fn to(question: &Question, ahead: usize) -> Answer {
-        let mut text = Text::new();
-        let said = ask(&mut text, question, ahead);
-        Answer { text, said }
+    // Before the first question.
+    pub(crate) fn new() -> Answer {
+        Answer {
+            text: Text::new(),
+            refusal: None,
+        }
+    }
+
+    // Asks a question whose bytes stand at `ahead`.
+    pub(crate) fn ask(&mut self, question: &Question, ahead: usize) {
+        self.text.clear();
+        // A text takes all words, so there is always an answer.
+        self.refusal = ask(&mut self.text, question, ahead).unwrap_or(None);
     }
 
     // Whether it has a text.
     pub(crate) fn is(&self, text: &[u8]) -> bool {
-        self.said.is_ok() && self.text.as_bytes() == text
+        self.text.as_str().as_bytes() == text
     }
 }

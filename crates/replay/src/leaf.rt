@@ -2,7 +2,7 @@
 use crate::answer::{ROOM, Said, Text, accept, refuse, say, stop_steps};
 use message::field::{Field, next_field};
 use numbers::signed::Signed;
-use protobuf::column::{Column, next_value};
+use protobuf::column::{Column, read_value};
 use protobuf::tag::VARINT;
 use protobuf::varint::read_varint;
 use std::fmt;
@@ -53,7 +53,7 @@ pub(crate) fn ask_column(text: &mut Text, s: &[u8]) -> Said {
         end: s.len(),
     };
     for _ in 0..ROOM {
-        match next_value(s, column) {
+        match read_value(s, column) {
             Ok(None) => return say(text, "."),
             Err(refusal) => return stop_steps(text, refusal),
             Ok(Some((value, next))) => {

@@ -12,7 +12,7 @@ mod messages;
 mod question;
 mod tally;
 
-use ask::Answer;
+use ask::{AHEAD, Answer};
 use kind::Kind;
 use protobuf::refusal::Refusal;
 use question::{Question, kind_of, question_of, read_line};
@@ -22,37 +22,35 @@ use std::io;
 use std::io::Write;
 use tally::{Tally, more};
 
-// How far ahead of the bytes the array begins where a question is asked again.
-const AHEAD: usize = 5;
-
-// What is told of the list, and what was counted so far.
+// What is told of the list, what was counted so far, and what was answered last, whose text keeps its room from question to question.
 #[derive(Drop)]
 struct Replay<W> {
     report: W,
     tally: Tally,
+    answer: Answer,
 }
 
 impl<W: Write> Replay<W> {
     // A line that differs, whole, with what was answered: at most 20.
-    fn differ(&mut self, line: &[u8], answer: &Answer) -> io::Result<()> {
+    fn differ(&mut self, line: &[u8]) -> io::Result<()> {
         if self.tally.different < 20 {
             self.report.write_all(b"different: ")?;
             self.report.write_all(line)?;
-            writeln!(self.report, "\nanswered:{}", answer.text)?;
+            writeln!(self.report, "\nanswered:{}", self.answer.text.as_str())?;
         }
         self.tally.different = more(self.tally.different);
         Ok(())
     }
 
     // Counts the questions on the string or the group whose number is the count.
-    fn count_at_the_count(&mut self, question: &Question, answer: &Answer) {
+    fn count_at_the_count(&mut self, question: &Question) {
         let [_, strings, string, _, groups, group] = question.numbers;
         match question.kind {
-            Kind::Get if string == strings => self.tally.get.ask(answer.is(b" ~")),
+            Kind::Get if string == strings => self.tally.get.ask(self.answer.is(b" ~")),
             Kind::Group if group == groups => {
                 self.tally
                     .group
-                    .ask(answer.said == Ok(Some(Refusal::Outside)))
+                    .ask(self.answer.refusal == Some(Refusal::Outside))
             }
             _ => {}
         }
@@ -61,17 +59,18 @@ impl<W: Write> Replay<W> {
     // Asks the question and compares the answer with the text behind the line's equals sign; then asks it again with other bytes before it,
     // where all places count from its own start.
     fn compare(&mut self, line: &[u8], question: &Question, text: &[u8]) -> io::Result<()> {
-        let answer = Answer::to(question, 0);
-        let again = Answer::to(question, AHEAD);
         self.tally.ask(question.kind);
-        self.count_at_the_count(question, &answer);
-        if !answer.is(text) {
-            return self.differ(line, &answer);
+        self.answer.ask(question, 0);
+        self.count_at_the_count(question);
+        let refusal = self.answer.refusal;
+        if !self.answer.is(text) {
+            return self.differ(line);
         }
-        if !again.is(text) {
-            return self.differ(line, &again);
+        self.answer.ask(question, AHEAD);
+        if !self.answer.is(text) {
+            return self.differ(line);
         }
-        self.tally.agree(question.kind, answer.said.unwrap_or(None));
+        self.tally.agree(question.kind, refusal);
         Ok(())
     }
 
@@ -103,12 +102,14 @@ impl<W: Write> Replay<W> {
 
     // A question by hand: prints it with what is answered.
     fn show(&mut self, words: &str) -> io::Result<()> {
-        let answer = kind_of(words.as_bytes())
+        let question = kind_of(words.as_bytes())
             .ok()
-            .and_then(|kind| question_of(kind, words.as_bytes()))
-            .map(|question| Answer::to(&question, 0));
-        match answer {
-            Some(answer) => writeln!(self.report, "{words} ={}", answer.text),
+            .and_then(|kind| question_of(kind, words.as_bytes()));
+        match question {
+            Some((question, _)) => {
+                self.answer.ask(&question, 0);
+                writeln!(self.report, "{words} ={}", self.answer.text.as_str())
+            }
             None => writeln!(self.report, "{words} ="),
         }
     }
@@ -152,6 +153,7 @@ fn main(rt: HostRuntime) -> io::Result<()> {
     let mut replay = Replay {
         report,
         tally: Tally::new(),
+        answer: Answer::new(),
     };
     replay.replay(&buf[..n])
 }

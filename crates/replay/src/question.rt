@@ -1,6 +1,6 @@
 // A line of the list taken apart: the kind of question, its bytes, its numbers, and the answer's text.
 use crate::kind::{Kind, NoKind};
-use replaying::list::{first_word, halves};
+use replaying::list::first_word;
 
 // The most numbers of a question.
 const NUMBERS: usize = 6;
@@ -26,31 +26,48 @@ fn number_of(word: &[u8]) -> Option<usize> {
     Some(number)
 }
 
+// The number that some bytes begin with, and what stands behind the byte that ends it. Any byte but a digit does.
+fn number_in(bytes: &[u8]) -> Option<(usize, &[u8])> {
+    let end = bytes
+        .iter()
+        .position(|byte| !byte.is_ascii_digit())
+        .unwrap_or(bytes.len());
+    let (word, behind) = bytes.split_at_checked(end)?;
+    Some((number_of(word)?, behind.get(1..).unwrap_or(&[])))
+}
+
+// What stands behind a line's first word and the space that ends it.
+fn behind_word(line: &[u8]) -> Option<&[u8]> {
+    line.get(first_word(line).len()..)?.strip_prefix(b" ")
+}
+
 // The kind of the question that a line asks.
 pub(crate) fn kind_of(line: &[u8]) -> Result<Kind, NoKind> {
     Kind::try_from(first_word(line))
 }
 
-// A question by its words: its kind, by whom it was answered, its bytes, and the numbers of its kind.
-pub(crate) fn question_of(kind: Kind, words: &[u8]) -> Option<Question<'_>> {
-    let mut words = words.split(|byte| *byte == b' ').skip(2);
-    let digits = words.next()?.strip_prefix(b"x")?;
+// A question by its words: its kind, by whom it was answered, which may be any word, its bytes, and the numbers of its kind. Says what
+// stands behind those.
+pub(crate) fn question_of(kind: Kind, line: &[u8]) -> Option<(Question<'_>, &[u8])> {
+    let words = behind_word(behind_word(line)?)?;
+    let digits = first_word(words).strip_prefix(b"x")?;
+    let mut rest = behind_word(words)?;
     let mut numbers = [0; NUMBERS];
     for number in numbers.iter_mut().take(kind.numbers()) {
-        *number = number_of(words.next()?)?;
+        let (value, behind) = number_in(rest)?;
+        *number = value;
+        rest = behind;
     }
-    if words.next().is_some() {
-        return None;
-    }
-    Some(Question {
+    let question = Question {
         kind,
         digits,
         numbers,
-    })
+    };
+    Some((question, rest))
 }
 
 // The question of a line, and the text of its answer.
 pub(crate) fn read_line(kind: Kind, line: &[u8]) -> Option<(Question<'_>, &[u8])> {
-    let (words, text) = halves(line)?;
-    Some((question_of(kind, words)?, text))
+    let (question, rest) = question_of(kind, line)?;
+    Some((question, rest.strip_prefix(b"=")?))
 }

@@ -10,20 +10,12 @@ pub(crate) enum Kind {
     Full,
 }
 
-// A word that names no kind of walk.
-#[derive(Clone, Copy, Debug, PartialEq, Eq)]
-pub(crate) struct NoKind;
-
-impl TryFrom<&[u8]> for Kind {
-    type Error = NoKind;
-
-    fn try_from(name: &[u8]) -> Result<Kind, NoKind> {
-        match name {
-            b"plain" => Ok(Kind::Plain),
-            b"full" => Ok(Kind::Full),
-            _ => Err(NoKind),
-        }
+// The kind of walk that a line asks for, and what stands behind its name: none where the line begins with no kind's.
+pub(crate) fn kind_of(line: &[u8]) -> Option<(Kind, &[u8])> {
+    if let Some(rest) = line.strip_prefix(b"plain") {
+        return Some((Kind::Plain, rest));
     }
+    Some((Kind::Full, line.strip_prefix(b"full")?))
 }
 
 // What a line asks: the walk of the block that the digits spell, and the text that it is to give.
@@ -33,17 +25,11 @@ pub(crate) struct Question<'a> {
     pub(crate) text: &'a [u8],
 }
 
-// The question of a line. It was answered by the published Rust (`p`), or by the simple reader alone (`r`).
-pub(crate) fn question_of(line: &[u8]) -> Option<Question<'_>> {
-    let (words, text) = halves(line)?;
-    let mut words = words.split(|byte| *byte == b' ').skip(1);
-    match words.next()? {
-        b"p" | b"r" => {}
-        _ => return None,
-    }
-    let digits = words.next()?.strip_prefix(b"x")?;
-    if words.next().is_some() {
-        return None;
-    }
+// The question behind the name of its kind. It was answered by the published Rust (`p`), or by the simple reader alone (`r`).
+pub(crate) fn question_of(rest: &[u8]) -> Option<Question<'_>> {
+    let rest = rest
+        .strip_prefix(b" p")
+        .or_else(|| rest.strip_prefix(b" r"))?;
+    let (digits, text) = halves(rest.strip_prefix(b" x")?)?;
     Some(Question { digits, text })
 }

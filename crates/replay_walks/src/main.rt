@@ -11,10 +11,10 @@ mod steps;
 mod tally;
 
 use followed::Followed;
-use line::{Kind, Question, question_of};
+use line::{Kind, Question, kind_of, question_of};
 use lists::Walked;
 use protobuf::refusal::Refusal;
-use replaying::list::{BYTES, LIST, decode, first_word, list_buffer, read_full, text_of};
+use replaying::list::{BYTES, LIST, decode, is_lower, list_buffer, read_full, text_of};
 use replaying::tables::block_and_tables;
 use replaying::words::Code;
 use std::fs::File;
@@ -68,6 +68,9 @@ fn walk_block(
 
 // How a question comes out.
 fn ask(kind: Kind, question: Question) -> Outcome {
+    if !is_lower(question.digits) {
+        return Outcome::NotRead;
+    }
     let mut buf = [0xa5u8; BYTES];
     let Some(len) = decode(question.digits, &mut buf) else {
         return Outcome::NotRead;
@@ -99,11 +102,11 @@ impl<W: Write> Replay<W> {
         if line.first() == Some(&b'#') {
             return Ok(());
         }
-        let Ok(kind) = Kind::try_from(first_word(line)) else {
+        let Some((kind, rest)) = kind_of(line) else {
             self.tally.count_other();
             return Ok(());
         };
-        let outcome = match question_of(line) {
+        let outcome = match question_of(rest) {
             Some(question) => ask(kind, question),
             None => Outcome::NotRead,
         };

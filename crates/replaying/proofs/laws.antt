@@ -1,3 +1,4 @@
 -- The laws that proofs here cite.
 pub mod Texts
 pub mod Parted
+pub mod Spelled

@@ -1,5 +1,6 @@
 // A list as it is read: a file's bytes, its lines, and the bytes that a word of digits spells.
-ghost use Rattle.std.specs.Prelude.{◌≡◌, ◌≢◌, ◌≤◌, ◌⊎◌, ℕ, List, ◌++◌, length, take, drop, codes, Ok, IfOk, IfSome, None, Some};
+ghost use Rattle.std.specs.Prelude.{◌≡◌, ◌≢◌, ◌≤◌, ◌⊎◌, ℕ, List, ◌++◌, ◌↔◌, length, take, drop, codes, Ok, IfOk, IfSome, None, Some, IsTrue, EachIndex, slice_index};
+ghost use Rattle.std.specs.Char.{IsNotAsciiUppercase};
 ghost use Rattle.hex.specs.Hex.{decode_of};
 ghost use Rattle.memchr.specs.Find.{IsFirstByte, is_byte};
 
@@ -67,6 +68,13 @@ pub fn halves(line: &[u8]) -> Option<(&[u8], &[u8])>
     let at = line.windows(2).position(|pair| pair == b" =".as_slice())?;
     let (words, rest) = line.split_at_checked(at)?;
     Some((words, rest.strip_prefix(b" =")?))
+}
+
+// Whether no digit is a capital letter. `decode` reads those too, but a list has none.
+pub fn is_lower(digits: &[u8]) -> bool
+    ensures { IsTrue result ↔ EachIndex digits.now (λ k. IsNotAsciiUppercase (slice_index digits.now k)) }
+{
+    digits.iter().all(|digit| !digit.is_ascii_uppercase())
 }
 
 // Puts the bytes that pairs of hexadecimal digits spell at the start of a buffer, and says how many there are: none where the digits are

@@ -1,11 +1,12 @@
 // The words of an answer. Each is written to any writer of text: to one that keeps the answer, or to one that compares it with a line.
-ghost use Rattle.std.specs.Prelude.{Some, decimal, codes, ◌++◌, flat_map};
+ghost use Rattle.std.specs.Prelude.{◌≤◌, Some, decimal, codes, ◌++◌, flat_map, length};
+ghost use Rattle.std.specs.Fmt.{WritesOnOk};
 ghost use Rattle.protobuf.specs.Refusal.{number as Refusal·number};
 ghost use Rattle.replaying.specs.Words.{or_none, place, part_text, two_digits, flag_or_none, info_text};
 
 use fields::part::Part;
 use protobuf::refusal::Refusal;
-use std::fmt;
+use std::{fmt, str};
 use views::info::WireInfo;
 
 // What was read, `~` where nothing was.
@@ -65,11 +66,30 @@ impl<'a> fmt::Display for Hex<'a> {
 
     fn fmt<W: fmt::Write>(&self, f: &mut fmt::Formatter<W>) -> fmt::Result {
         f.write_str("x")?;
-        for byte in self.0 {
-            write!(f, "{:x}{:x}", byte / 16, byte % 16)?;
+        for bytes in self.0.chunks(AT_A_TIME) {
+            write_digits(f, bytes)?;
         }
         Ok(())
     }
+}
+
+// How many bytes' digits are written at a time: one by one they would take most of the time of a long answer.
+const AT_A_TIME: usize = 64;
+
+// The digits of some bytes, at most as many as are written at a time.
+fn write_digits<W: fmt::Write>(f: &mut fmt::Formatter<W>, bytes: &[u8]) -> fmt::Result
+    requires { length bytes.now ≤ 64 }
+    ensures { WritesOnOk W.write_str_gives f.old result (flat_map two_digits bytes.now) f.new }
+{
+    let mut room = [0; 2 * AT_A_TIME];
+    let digits = &mut room[..2 * bytes.len()];
+    let Ok(()) = hex::encode_to_slice(bytes, digits) else {
+        unreachable!();
+    };
+    let Ok(text) = str::from_utf8(digits) else {
+        unreachable!();
+    };
+    f.write_str(text)
 }
 
 // A flag that was read, as 1 or 0, `~` where none was.

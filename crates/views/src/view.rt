@@ -117,7 +117,7 @@ fn fill<V: View>(s: &[u8], base: usize, slots: &mut [Slot; PLACES]) -> Result<()
                 start: base + field.start,
                 len: field.len,
             };
-            let x = put_slot(rule, slot_in(slots, k), raw)?;
+            let x = put_slot(Some(rule), slot_in(slots, k), raw)?;
             store(slots, k, x);
         }
         at = next;

@@ -8,13 +8,14 @@ ghost use Rattle.walk.specs.Said.{dense_said_by};
 ghost use Rattle.walk.specs.Moves.{ended_walk, refused_step, Turns};
 
 use crate::inside::state_inside;
-use crate::moves::{enter, messages_of};
+use crate::moves::{behind_kind, enter, messages_of};
 use crate::state::{Between, BlockElementsIter, DenseNodeIter};
-use crate::steps::{dense_element, part_of, walk_full_dense, walk_messages};
+use crate::steps::{dense_element, part_of, say_message, walk_full_dense};
 use crate::turns::{Move, move_out, move_to};
 use elements::element::{Element, NodeInfo};
 use fields::part::Part;
 use kinds::dense_nodes::next_dense;
+use kinds::messages::next_loose;
 use kinds::state::{DenseColumns, Loose};
 use lookup::by_number::is_inside;
 use protobuf::refusal::Refusal;
@@ -65,7 +66,7 @@ fn say_dense(nodes: DenseNodeIter, columns: DenseColumns) -> ElementStep
     }
 }
 
-// One turn of a state, which stays where it is among plain dense nodes.
+// One turn of a state, which stays where it is among plain dense nodes and among messages.
 // Each arm binds what its case alone has.
 fn turn(buffer: &[u8], block: WireBlock, state: BlockElementsIter) -> Move
     requires { (is_record_inside buffer.now block ≡ true) × (state_inside buffer.now block state ≡ true) }
@@ -76,12 +77,13 @@ fn turn(buffer: &[u8], block: WireBlock, state: BlockElementsIter) -> Move
         BlockElementsIter::Between(b) => return enter(buffer, block, b),
         BlockElementsIter::DenseNodes(_) => return move_to(state),
         BlockElementsIter::FullDenseNodes(d) => return walk_full_dense(buffer, block, d),
-        BlockElementsIter::Messages(m) => return walk_messages(buffer, block, m),
+        BlockElementsIter::Messages(_) => return move_to(state),
     }
 }
 
 // The step of a state that is inside. It makes one turn after the other until there is something to say; a turn that moves is a `step` of the
-// Rust that answers None. Plain dense nodes are stepped over here, by their columns alone.
+// Rust that answers None. Plain dense nodes are stepped over here, by their columns alone, and so are the kinds of messages that a group has none
+// of: a turn's answer would pass through memory for each.
 fn advance(buffer: &[u8], block: WireBlock, mut state: BlockElementsIter) -> ElementStep
     requires { (is_record_inside buffer.now block ≡ true) × (state_inside buffer.now block state ≡ true) }
     ensures says { element_said buffer.now block result ≡ elements_by buffer.now block state }
@@ -96,6 +98,17 @@ fn advance(buffer: &[u8], block: WireBlock, mut state: BlockElementsIter) -> Ele
                     Err(refusal) => return refuse(refusal),
                 }
             }
+            BlockElementsIter::Messages(m) => match next_loose(buffer, m) {
+                Ok(Some((message, element, at))) => {
+                    let moved = say_message(m, message, element, at);
+                    return ElementStep {
+                        said: moved.said,
+                        next: moved.next,
+                    };
+                }
+                Ok(None) => state = behind_kind(m.full, m.of, m.kind),
+                Err(refusal) => return refuse(refusal),
+            },
             _ => {
                 let m = turn(buffer, block, state);
                 let next = m.next;

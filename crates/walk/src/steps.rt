@@ -1,20 +1,19 @@
-// One step of a walk among a group's elements: a dense node with metadata, or a message.
+// One step of a walk among a group's elements: a dense node with metadata, and what a message says.
 ghost use Rattle.std.specs.Prelude.{◌≡◌, true};
 ghost use Rattle.lookup.specs.Lookup.{is_record_inside};
 ghost use Rattle.walk.specs.State.{state_inside};
 ghost use Rattle.walk.specs.Walk.{part_of, elements_by};
 ghost use Rattle.walk.specs.Said.{dense_element};
-ghost use Rattle.walk.specs.Moves.{left, among_full, among_messages, full_said_by, message_said_by, Quietly};
+ghost use Rattle.walk.specs.Moves.{left, among_full, full_said_by, message_said_by, Quietly};
 
-use crate::moves::{begin_kind, behind_kind};
+use crate::moves::begin_kind;
 use crate::state::{BlockElementsIter, DenseNodeIter, FullDenseNodeIter, Range};
-use crate::turns::{Move, move_refused, move_to, move_with};
+use crate::turns::{Move, move_refused, move_with};
 use columns::info_rows::InfoColumns;
 use columns::zip::RowColumns;
 use elements::element::{DenseNode, Element, NodeInfo};
 use fields::part::Part;
 use kinds::dense_nodes::next_full_dense;
-use kinds::messages::next_loose;
 use kinds::state::{DenseColumns, Loose, Messages};
 use protobuf::column::Column;
 use wire::record::WireBlock;
@@ -66,7 +65,7 @@ pub(crate) fn walk_full_dense(buffer: &[u8], block: WireBlock, d: FullDenseNodeI
 }
 
 // A message, with the place behind it.
-fn say_message(m: Messages, message: Part, element: Element, at: usize) -> Move
+pub(crate) fn say_message(m: Messages, message: Part, element: Element, at: usize) -> Move
     ensures { result ≡ message_said_by m message element at }
 {
     let next = Messages { at, ..m };
@@ -76,16 +75,4 @@ fn say_message(m: Messages, message: Part, element: Element, at: usize) -> Move
         element,
         BlockElementsIter::Messages(next),
     )
-}
-
-// Among the messages of a kind.
-pub(crate) fn walk_messages(buffer: &[u8], block: WireBlock, m: Messages) -> Move
-    requires { (is_record_inside buffer.now block ≡ true) × (state_inside buffer.now block (among_messages m) ≡ true) }
-    ensures { Quietly buffer.now block (left block (among_messages m)) (elements_by buffer.now block (among_messages m)) result }
-{
-    match next_loose(buffer, m) {
-        Err(refusal) => return move_refused(refusal),
-        Ok(None) => return move_to(behind_kind(m.full, m.of, m.kind)),
-        Ok(Some((message, element, at))) => return say_message(m, message, element, at),
-    }
 }

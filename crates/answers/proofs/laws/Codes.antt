@@ -1,14 +1,17 @@
 -- Laws of codes and of what an answer's slice is left as: too short for the answer, or long enough and then by the outcome.
 use Rattle.std.specs.Prelude.{Ok, Err}
 use Prim.Native.Nat.{ℕ, ◌*◌, ◌≤◌, ◌<◌}
-use mathlib.Core.Path.{◌≡◌, refl, subst}
+use mathlib.Core.Path.{◌≡◌, refl, ap, subst, ◌∙◌}
 use mathlib.Core.List.{List}
 use native.Mathlib.Omega.{arith}
 use lib.ListN.{length}
 use lib.Dec.{leb}
 use borrow.Author.Tests.{le-leb, lt-leb}
 use Rattle.numbers.specs.Choose.{choose}
+use Rattle.protobuf.specs.declared.refusal.Refusal.{Refusal}
+use Rattle.protobuf.specs.Refusal.{number}
 use Rattle.fields.specs.Outcome.{Outcome}
+use Rattle.answers.specs.Words.{filled}
 use Rattle.answers.specs.Codes.{answer_after, Answers}
 use Rattle.answers.proofs.laws.Words.{put-short}
 
@@ -28,6 +31,12 @@ module _ {A : Type 0} (n : ℕ) (f : A → List ℕ) (out : List ℕ) where
       untouched : (x : Outcome A) → out ≡ answer_after f out x
       untouched (Ok a) = put-short out (f a) (omega (arith, size a))
       untouched (Err r) = refl
+
+  pub answer-kept : {x : Outcome A} {a : A} {ws after : List ℕ} → 8 * n ≤ length out → x ≡ Ok a → ws ≡ f a → after ≡ filled out ws → Answers n f out x 0 after
+  answer-kept h e g k = record { code = rw (e, le-leb (8 * n) (length out) h); after = rw e (k ∙ ap (filled out) g) }
+
+  pub answer-refused : {x : Outcome A} {r : Refusal} {code : ℕ} → 8 * n ≤ length out → x ≡ Err r → code ≡ number r → Answers n f out x code out
+  answer-refused h e g = record { code = rw (e, le-leb (8 * n) (length out) h) g; after = rw e }
 
 -- what was put is what was found
 pub answer-put : {A : Type 0} {n : ℕ} {f : A → List ℕ} {out : List ℕ} {x y : Outcome A} {code : ℕ} {after : List ℕ} → Answers n f out x code after → x ≡ y → Answers n f out y code after

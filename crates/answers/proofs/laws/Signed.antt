@@ -10,7 +10,7 @@ use borrow.Author.Tests.{lt-ltb, le-ltb, le-leb, ltb-true, ltb-false}
 use lib.Signed.{mag}
 use mir.Syntax.{Width, w32, w64}
 use mir.Val.{hbits, SFits, to_z, of_z}
-use mir.Facts.{to_z-of_z, sfits_widen}
+use mir.Facts.{to_z-of_z}
 use Rattle.numbers.specs.Signed.{signed, twos, residue, is_int32}
 use Rattle.numbers.proofs.laws.Signed.{InRange, residue-signed, sub-below}
 use Rattle.answers.specs.Words.{signed_word}

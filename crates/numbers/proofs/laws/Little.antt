@@ -90,6 +90,10 @@ module _ (n : ℕ) (s : List ℕ) (at : ℕ) where
   unfolding number_at
   number-outside h = simp (lt-leb _ _ h)
 
+pub number-split : (m n : ℕ) (s : List ℕ) (at : ℕ) → at + (m + n) ≤ length s → number_at (m + n) s at ≡ number_at m s at + 256 ^ m * number_at n s (at + m)
+number-split m n s at h =
+    rw (number-inside (m + n) s at h, number-inside m s at (omega arith), number-inside n s (at + m) (omega arith)) (little-split m n s at (omega arith))
+
 -- zeros are the number 0
 pub little-zeros : (n : ℕ) → little (replicate n 0) ≡ 0
 unfolding little
@@ -156,6 +160,10 @@ module _ (n : ℕ) (s : List ℕ) (at v : ℕ) where
   unfolding written_at
   writes_inside h = simp (le-leb _ _ h)
 
+  pub writes_outside : length s < at + n → written_at n s at v ≡ s
+  unfolding written_at
+  writes_outside h = simp (lt-leb _ _ h)
+
   pub writes_bytes : {b : List ℕ} → b ≡ bytes n v → choose (leb (at + n) (length s)) (written s at b) s ≡ written_at n s at v
   unfolding written_at
   writes_bytes e = ap (λ (l : List ℕ). choose (leb (at + n) (length s)) (written s at l) s) e
@@ -166,3 +174,17 @@ module _ (n : ℕ) (s : List ℕ) (at v : ℕ) where
       choose_elim (λ (l : List ℕ). length l ≡ length s) (leb (at + n) (length s)) _ _
       (λ e. written-length s at (bytes n v) (omega (arith, leb-true (at + n) (length s) e, bytes-length n v)))
       (λ e. refl)
+
+-- n bytes behind m bytes
+module _ (m n : ℕ) (s : List ℕ) (at v : ℕ) (h : at + (m + n) ≤ length s) where
+  pub writes_split : written_at n (written_at m s at (v % 256 ^ m)) (at + m) (v / 256 ^ m) ≡ written_at (m + n) s at v
+  writes_split =
+      writes_inside n (written_at m s at (v % 256 ^ m)) (at + m) (v / 256 ^ m) (omega (arith, writes_length m s at (v % 256 ^ m)))
+      ∙ ap (λ (l : List ℕ). written l (at + m) (bytes n (v / 256 ^ m))) (writes_inside m s at (v % 256 ^ m) (omega arith) ∙ ap (written s at) (bytes-mod m v))
+      ∙ ap (λ (k : ℕ). written (written s at (bytes m v)) (at + k) (bytes n (v / 256 ^ m))) (sym (bytes-length m v))
+      ∙ written_twice s at (bytes m v) (bytes n (v / 256 ^ m)) (omega (arith, bytes-length m v, bytes-length n (v / 256 ^ m)))
+      ∙ ap (written s at) (sym (bytes-append m n v))
+      ∙ sym (writes_inside (m + n) s at v h)
+
+  pub halves_written : {t u : List ℕ} → t ≡ written_at m s at (v % 256 ^ m) → u ≡ written_at n t (at + m) (v / 256 ^ m) → u ≡ written_at (m + n) s at v
+  halves_written e g = g ∙ ap (λ (l : List ℕ). written_at n l (at + m) (v / 256 ^ m)) e ∙ writes_split

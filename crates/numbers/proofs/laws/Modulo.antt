@@ -71,6 +71,10 @@ four_products B p x q y =
     let cross : y * p * B ≡ p * B * y = mul_assoc y p B ∙ mul_comm y (p * B) in
     omega (arith, mul-add (p * B + x) (q * B) y, add-mul (p * B) x (q * B), add-mul (p * B) x y, add-mul (x * q) (y * p) B, mul_assoc x q B)
 
+pub product-below : (h : ℕ) {x y : ℕ} → x < 2 ^ h → y < 2 ^ h → x * y < 2 ^ (h + h)
+product-below h {x} {y} hx hy =
+    omega (arith, mul-le-mul_left x (le_of_lt hy), mul-lt-mul_of_pos_right {m = x} {n = 2 ^ h} hx (pow_pos h), pow-add 2 h h)
+
 -- of the four products of two numbers' halves, the highest is a multiple of 2^(h + h)
 pub product-of_halves : (h a b : ℕ) {cross : ℕ} → cross ≡ (a % 2 ^ h * (b / 2 ^ h) + b % 2 ^ h * (a / 2 ^ h)) % 2 ^ (h + h) → (cross * 2 ^ h % 2 ^ (h + h) + a % 2 ^ h * (b % 2 ^ h)) % 2 ^ (h + h) ≡ a * b % 2 ^ (h + h)
 product-of_halves h a b e =

@@ -9,8 +9,6 @@ use Rattle.fields.proofs.laws.Part.{refuted, confirmed}
 use Rattle.columns.specs.Inside.{also}
 use Rattle.walk.specs.Same.{same_number}
 
--- ---- one test, and where it holds another
-
 -- ---- signed numbers
 
 -- numbers are the same exactly where they are equal

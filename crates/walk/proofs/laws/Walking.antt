@@ -16,6 +16,7 @@ use Rattle.wire.specs.declared.record.WireBlock.{WireBlock}
 use Rattle.lookup.specs.Lookup.{is_record_inside}
 use Rattle.elements.specs.declared.element.NodeInfo.TheVariants as node
 use Rattle.kinds.specs.declared.state.DenseColumns.{DenseColumns}
+use Rattle.kinds.specs.declared.state.Messages.{Messages}
 use Rattle.walk.specs.declared.state.DenseNodeIter.{DenseNodeIter}
 use Rattle.walk.specs.declared.state.BlockElementsIter.{BlockElementsIter}
 use Rattle.walk.specs.declared.turns.Move.{Move}
@@ -23,7 +24,7 @@ use Rattle.walk.specs.State.{group_inside, state_inside}
 use Rattle.walk.specs.Walk.{elements_by, elements_from, tested_from, said_then, element_said, behind_said, element_behind}
 use Rattle.kinds.specs.Said.{columns_inside}
 use Rattle.walk.specs.Said.{dense_element, dense_said_by}
-use Rattle.walk.specs.Moves.{before_kind, moves_to, moves_out, turn_said, turn_on, turn_behind, turns_within, Turns, left, refused_step}
+use Rattle.walk.specs.Moves.{before_kind, moves_to, moves_out, turn_said, turn_on, turn_behind, turns_within, Turns, Quietly, among_messages, left, refused_step}
 use Rattle.kinds.specs.Dense.{dense_ahead, dense_said}
 use Rattle.walk.specs.declared.block_elements.ElementStep.{ElementStep}
 use Rattle.kinds.specs.declared.state.Loose.TheVariants as kind
@@ -44,18 +45,18 @@ module _ {s : List ℕ} {r : WireBlock} where
   pub walk_begins : {from : BlockElementsIter} → state_inside s r from ≡ true → Walking s r from from
   walk_begins h = record { so = refl; inside = h }
 
-  module _ {from here : BlockElementsIter} (w : Walking s r from here) {q : Move} (k : Turns s r here q) where
+  module _ {from here : BlockElementsIter} (w : Walking s r from here) {n : ℕ} {q : Move} (k : Quietly s r n (elements_by s r here) q) where
     -- a turn that says something is the step
     pub turn_says : q.quiet ≡ false → (said_then s r q.said q.next ≡ elements_by s r from) × (behind_said q.said q.next ≡ walk.Ended)
     turn_says g = (sym (ap (λ (b : Bool). turn_said s r b q.said q.next) g) ∙ k.says ∙ sym w.so, sym (ap (λ (b : Bool). turn_behind b q.said q.next) g) ∙ k.behind)
 
-    -- any state but plain dense nodes comes nearer
-    module _ (moves : turns_within r here ≡ left r here) (g : q.quiet ≡ true) where
-      tests : (state_inside s r q.next ≡ true) × (ltb (left r q.next) (turns_within r here) ≡ true)
-      tests = both_hold (state_inside s r q.next) _ (sym (ap (λ (b : Bool). turn_on s r (turns_within r here) b q.next) g) ∙ k.on)
+    -- any state but those that stay comes nearer
+    module _ (moves : n ≡ left r here) (g : q.quiet ≡ true) where
+      tests : (state_inside s r q.next ≡ true) × (ltb (left r q.next) n ≡ true)
+      tests = both_hold (state_inside s r q.next) _ (sym (ap (λ (b : Bool). turn_on s r n b q.next) g) ∙ k.on)
 
       pub turn_nearer : left r q.next < left r here
-      turn_nearer = omega (arith, moves, ltb-true (left r q.next) (turns_within r here) tests.1)
+      turn_nearer = omega (arith, moves, ltb-true (left r q.next) n tests.1)
 
       pub turn_on_lem : Walking s r from q.next
       turn_on_lem = record { so = w.so ∙ sym k.says ∙ ap (λ (b : Bool). turn_said s r b q.said q.next) g; inside = tests.0 }
@@ -90,6 +91,12 @@ module _ {s : List ℕ} {r : WireBlock} {from here : BlockElementsIter} {d : Den
     dense-on e =
         subst (Walking s r from) (sym comes) (record { so = w.so ∙ group-ended _ _ _ e; inside = nodes-before s r false d.of group })
 
+-- ---- messages: what the next one, or the lack of one, moves to
+
+module _ {s : List ℕ} {r : WireBlock} {here : BlockElementsIter} {m : Messages} (is : here ≡ walk.Messages m) where
+  pub among : {q : Move} → Quietly s r (left r (among_messages m)) (elements_by s r (among_messages m)) q → Quietly s r (left r here) (elements_by s r here) q
+  among {q} k = subst (λ (x : BlockElementsIter). Quietly s r (left r x) (elements_by s r x) q) (sym is) k
+
 -- ---- one turn, by the state
 
 module _ (s : List ℕ) (r : WireBlock) {w : BlockElementsIter} {q : Move} where
@@ -102,6 +109,10 @@ module _ (s : List ℕ) (r : WireBlock) {w : BlockElementsIter} {q : Move} where
   -- plain dense nodes stay
   pub turns_here : {d : DenseNodeIter} → w ≡ walk.DenseNodes d → q ≡ moves_to w → state_inside s r w ≡ true → Turns s r w q
   turns_here {d} e is h = turns_as e (quiet_moved s r (walk.DenseNodes d) (is ∙ ap moves_to e) (sym (ap (state_inside s r) e) ∙ h) (omega arith) refl)
+
+  -- and so do messages
+  pub turns-kind : {m : Messages} → w ≡ walk.Messages m → q ≡ moves_to w → state_inside s r w ≡ true → Turns s r w q
+  turns-kind {m} e is h = turns_as e (quiet_moved s r (walk.Messages m) (is ∙ ap moves_to e) (sym (ap (state_inside s r) e) ∙ h) (omega arith) refl)
 
 -- ---- 14 before anything is read
 
@@ -119,13 +130,13 @@ module _ (s : List ℕ) (r : WireBlock) (w : BlockElementsIter) where
     unfolding tested_from
     both-inside h = simp (tables, h)
 
--- only plain dense nodes stay
-pub not-dense : (r : WireBlock) (w : BlockElementsIter) → ((d : DenseNodeIter) → w ≡ walk.DenseNodes d → ⊥) → turns_within r w ≡ left r w
-not-dense r walk.Ended h = refl
-not-dense r (walk.Between b) h = refl
-not-dense r (walk.DenseNodes d) h = absurd (h d refl)
-not-dense r (walk.FullDenseNodes d) h = refl
-not-dense r (walk.Messages m) h = refl
+-- only plain dense nodes and messages stay
+pub moves-on : (r : WireBlock) (w : BlockElementsIter) → ((d : DenseNodeIter) → w ≡ walk.DenseNodes d → ⊥) → ((m : Messages) → w ≡ walk.Messages m → ⊥) → turns_within r w ≡ left r w
+moves-on r walk.Ended h k = refl
+moves-on r (walk.Between b) h k = refl
+moves-on r (walk.DenseNodes d) h k = absurd (h d refl)
+moves-on r (walk.FullDenseNodes d) h k = refl
+moves-on r (walk.Messages m) h k = absurd (k m refl)
 
 -- only an ended walk is not tested
 pub not-ended : (s : List ℕ) (r : WireBlock) (w : BlockElementsIter) → (w ≡ walk.Ended → ⊥) → tested_from s r w ≡ elements_from s r w

@@ -10,13 +10,13 @@ pub loop-next-init : goal.loop-next-init
 loop-next-init c = count-begins _ _
 
 pub returns-in_err-next : goal.returns-in_err-next
-returns-in_err-next c = rw (handed_on _ c.from_residual.ensures) (sym (count_cut _ _ c.loop-next.invariant (stepped _ _ c.next_value.ensures c.in_err-next.was)))
+returns-in_err-next c = rw (handed_on _ c.from_residual.ensures) (sym (count_cut _ _ c.loop-next.invariant (stepped _ _ c.read_value.ensures c.in_err-next.was)))
 
 pub loop-next-smaller : goal.loop-next-smaller
-loop-next-smaller c = more_shortens (stepped _ _ c.next_value.ensures (c.in_ok-next.was ∙ ap Ok c.in-Some.is))
+loop-next-smaller c = more_shortens (stepped _ _ c.read_value.ensures (c.in_ok-next.was ∙ ap Ok c.in-Some.is))
 
 pub loop-next-preserved : goal.loop-next-preserved
-loop-next-preserved c = count-one _ _ c.loop-next.invariant _ (stepped _ _ c.next_value.ensures (c.in_ok-next.was ∙ ap Ok c.in-Some.is))
+loop-next-preserved c = count-one _ _ c.loop-next.invariant _ (stepped _ _ c.read_value.ensures (c.in_ok-next.was ∙ ap Ok c.in-Some.is))
 
 pub returns : goal.returns
-returns c = sym (count-ends _ _ c.loop-next.invariant (stepped _ _ c.next_value.ensures (c.in_ok-next.was ∙ ap Ok c.in_default.is)))
+returns c = sym (count-ends _ _ c.loop-next.invariant (stepped _ _ c.read_value.ensures (c.in_ok-next.was ∙ ap Ok c.in_default.is)))

@@ -10,12 +10,12 @@ use Rattle.columns.proofs.laws.Zip.{mapped_end, mapped-more, read-ended, read-cu
 use Rattle.columns.proofs.info_rows.next_visible.Goals as goal
 
 pub returns-in_err-value-clause-says : goal.returns-in_err-value-clause-says
-returns-in_err-value-clause-says c = rw (handed_on _ c.from_residual.ensures) (sym (read-cut _ _ (mapped_end _ (stepped _ _ c.next_value.ensures c.in_err-value.was))))
+returns-in_err-value-clause-says c = rw (handed_on _ c.from_residual.ensures) (sym (read-cut _ _ (mapped_end _ (stepped _ _ c.read_value.ensures c.in_err-value.was))))
 
 pub returns-in_default-clause-says : goal.returns-in_default-clause-says
 returns-in_default-clause-says c =
     present-same (returned w32 c.of_bits-version.type_inv c.of_bits-version.ensures)
-    ∙ sym (read-ended _ _ (mapped_end _ (stepped _ _ c.next_value.ensures (c.in_ok-value.was ∙ ap Ok c.in_default.is))))
+    ∙ sym (read-ended _ _ (mapped_end _ (stepped _ _ c.read_value.ensures (c.in_ok-value.was ∙ ap Ok c.in_default.is))))
 
 pub returns-in-Some : goal.returns-in-Some
 returns-in-Some c =
@@ -23,6 +23,6 @@ returns-in-Some c =
     let read = c.in_ok-value.was ∙ ap Ok c.in-Some.is in
     record {
       says = present-same (returned w32 c.of_bits-version.type_inv c.of_bits-version.ensures)
-          ∙ sym (read_more _ _ (mapped-more _ (stepped _ _ c.next_value.ensures read) refl));
-      inside = λ h. (visible-read (each-inside a.s.now a.columns h) (behind-inside _ _ c.next_value.ensures read)).so;
+          ∙ sym (read_more _ _ (mapped-more _ (stepped _ _ c.read_value.ensures read) refl));
+      inside = λ h. (visible-read (each-inside a.s.now a.columns h) (behind-inside _ _ c.read_value.ensures read)).so;
     }

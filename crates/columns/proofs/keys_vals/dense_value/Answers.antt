@@ -8,12 +8,12 @@ use Rattle.columns.proofs.laws.Inside.{behind-inside}
 use Rattle.columns.proofs.keys_vals.dense_value.Goals as goal
 
 pub returns-in_err-value-clause-says : goal.returns-in_err-value-clause-says
-returns-in_err-value-clause-says c = rw (handed_on _ c.from_residual.ensures) (sym (ap (value_of _) (stepped _ _ c.next_value.ensures c.in_err-value.was)))
+returns-in_err-value-clause-says c = rw (handed_on _ c.from_residual.ensures) (sym (ap (value_of _) (stepped _ _ c.read_value.ensures c.in_err-value.was)))
 
 pub returns-in_default-clause-says : goal.returns-in_default-clause-says
-returns-in_default-clause-says c = sym (ap (value_of _) (stepped _ _ c.next_value.ensures (c.in_ok-value.was ∙ ap Ok c.in_default.is)))
+returns-in_default-clause-says c = sym (ap (value_of _) (stepped _ _ c.read_value.ensures (c.in_ok-value.was ∙ ap Ok c.in_default.is)))
 
 pub returns : goal.returns
 returns c =
     let read = c.in_ok-value.was ∙ ap Ok c.in-Some.is in
-    record { says = sym (ap (value_of _) (stepped _ _ c.next_value.ensures read)); inside = behind-inside _ _ c.next_value.ensures read }
+    record { says = sym (ap (value_of _) (stepped _ _ c.read_value.ensures read)); inside = behind-inside _ _ c.read_value.ensures read }

@@ -23,8 +23,8 @@ member : (c : After-in_step-2) → let s = c.args.s.now in
     (members_ahead s c.args.columns)
 member c =
     zipped
-    (typed (twos 32) (reads _ _ c.next_value-r.ensures))
-    (zipped (record { so = c.next-m.ensures.says }) (typed (twos 32) (reads _ _ c.next_value-t.ensures)) c.in_step.ensures)
+    (typed (twos 32) (reads _ _ c.read_value-r.ensures))
+    (zipped (record { so = c.next-m.ensures.says }) (typed (twos 32) (reads _ _ c.read_value-t.ensures)) c.in_step.ensures)
     c.in_step-2.ensures
 
 pub returns-in_err-role-clause-says : goal.returns-in_err-role-clause-says
@@ -42,5 +42,5 @@ returns c =
           (both (returned w32 c.of_bits.type_inv c.of_bits.ensures i) (both c.in-Some.memids.sum (returned w32 c.of_bits-2.type_inv c.of_bits-2.ensures i)))
           (members_ahead c.args.s.now (record { roles = c.in-Some.roles; memids = c.in-Some.memids; types = c.in-Some.types })))
           ∙ sym (told_is (member (goal.at.returns c).After-in_step-2) read);
-      inside = inside_at _ (in_step_inside _ _ _ _ (behind-inside _ _ c.next_value-r.ensures refl) (in_step_inside _ _ _ _ c.next-m.ensures.inside (behind-inside _ _ c.next_value-t.ensures refl) c.in_step.ensures) c.in_step-2.ensures) read;
+      inside = inside_at _ (in_step_inside _ _ _ _ (behind-inside _ _ c.read_value-r.ensures refl) (in_step_inside _ _ _ _ c.next-m.ensures.inside (behind-inside _ _ c.read_value-t.ensures refl) c.in_step.ensures) c.in_step-2.ensures) read;
     }

@@ -1,14 +1,11 @@
 -- `turn` goes by the state: each arm is the move of its own kind.
 use mathlib.Core.Path.{sym, ap, ◌∙◌}
 use Rattle.walk.specs.State.{state_inside}
-use Rattle.walk.proofs.laws.Walking.{turns_as, turns_out, turns_here}
+use Rattle.walk.proofs.laws.Walking.{turns_as, turns_out, turns_here, turns-kind}
 use Rattle.walk.proofs.block_elements.turn.Goals as goal
 
 pub walk_full_dense-requires : goal.walk_full_dense-requires
 walk_full_dense-requires c = (c.requires.0, sym (ap (state_inside c.args.buffer.now c.args.block) c.in-FullDenseNodes.is) ∙ c.requires.1)
-
-pub walk_messages-requires : goal.walk_messages-requires
-walk_messages-requires c = (c.requires.0, sym (ap (state_inside c.args.buffer.now c.args.block) c.in-Messages.is) ∙ c.requires.1)
 
 pub returns-in-Ended : goal.returns-in-Ended
 returns-in-Ended c =
@@ -29,6 +26,4 @@ returns-in-FullDenseNodes c =
     turns_as a.buffer.now a.block c.in-FullDenseNodes.is c.walk_full_dense.ensures
 
 pub returns-in-Messages : goal.returns-in-Messages
-returns-in-Messages c =
-    let a = c.args in
-    turns_as a.buffer.now a.block c.in-Messages.is c.walk_messages.ensures
+returns-in-Messages c = turns-kind c.args.buffer.now c.args.block c.in-Messages.is c.move_to-in-Messages.ensures c.requires.1
