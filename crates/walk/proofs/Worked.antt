@@ -39,6 +39,7 @@ use Rattle.walk.specs.declared.state.DenseNodeIter.{DenseNodeIter}
 use Rattle.kinds.specs.Dense.{nodes_of}
 use Rattle.kinds.specs.Loose.{viewed_all}
 use Rattle.walk.specs.Walk.{◌then◌, Found, groups_from, tested_from, elements_from, fresh}
+use Rattle.walk.specs.Moves.{turns_within}
 use Rattle.walk.specs.Shows.{references_of}
 use Rattle.walk.specs.Run.{Says, gives, over, refuses, Hands, hands-one, hands_end}
 
@@ -249,6 +250,11 @@ pub record Worked : Type 0 where
   pub groups-behind-infos : from (stamped 0 (column 0 0) (column 0 0) (column 0 0)) ≡ the_way_twice
   -- a wire error ends the messages of a kind quietly, where a state is among them
   pub quiet_at_a_wire_error : elements_from (0x1A ∷ 0x05 ∷ entry 0 2) (place 2 1 2) (walk.Messages (record { full = false; of = record { group = 0; start = 0; len = 2 }; kind = kind.Ways; at = 0 })) ≡ end ended
+  -- a turn of messages comes nearer to the end than they are: 6 times the groups that are left, less the phase of their kind; that of plain
+  -- dense nodes may stay
+  pub turn-of-ways : turns_within both (among 0 kind.Ways 11) ≡ 9
+  pub turn-of-relations : turns_within both (among 1 kind.Relations 0) ≡ 2
+  pub turn-of-dense-nodes : turns_within both (walk.DenseNodes (dense 1 4 (range 0 0))) ≡ 6
 
 pub worked : Worked
 unfolding and_then digits varint legal tag tag_at raw_varint fixed counted length_delimited value_by field_in fields_of group_by payload unrolled mapped field_at message_from signed twos unzigzag zigzag residue wrap value_at column_from sums_from onward each column_part info_part put store view_from view view_in dense_from dense_in parts_of take_pairs little number_at group_at ahead start_of zip pairs_of nodes_of viewed_all ◌then◌ groups_from tested_from
@@ -297,6 +303,9 @@ worked =
       groups-behind-nodes = refl;
       groups-behind-infos = refl;
       quiet_at_a_wire_error = refl;
+      turn-of-ways = refl;
+      turn-of-relations = refl;
+      turn-of-dense-nodes = refl;
     }
 
 -- ---- runs: what answers do not hand out a list

@@ -115,13 +115,13 @@ pub record Quietly (s : List ℕ) (r : WireBlock) (n : ℕ) (c : Column Found) (
   pub on : turn_on s r n q.quiet q.next ≡ true
   pub behind : turn_behind q.quiet q.said q.next ≡ walk.Ended
 
--- what a turn of a state comes nearer than: the state itself, but for plain dense nodes and messages, which stay
+-- what a turn of a state comes nearer than: the state itself, but for plain dense nodes, which stay
 abbrev pub turns_within : WireBlock → BlockElementsIter → ℕ
 turns_within r walk.Ended = left r walk.Ended
 turns_within r (walk.Between b) = left r (walk.Between b)
 turns_within r (walk.DenseNodes d) = left r (walk.DenseNodes d) + 1
 turns_within r (walk.FullDenseNodes d) = left r (walk.FullDenseNodes d)
-turns_within r (walk.Messages m) = left r (walk.Messages m) + 1
+turns_within r (walk.Messages m) = left r (walk.Messages m)
 
 -- one turn of a state
 abbrev pub Turns : List ℕ → WireBlock → BlockElementsIter → Move → Type 0

@@ -1,11 +1,12 @@
 // The walk of a block: BlockElementsIter of the Rust. A step hands out the next element with the state behind it.
-ghost use Rattle.std.specs.Prelude.{◌≡◌, true, false, List, ℕ};
+ghost use Rattle.std.specs.Prelude.{◌≡◌, ◌≢◌, true, false, List, ℕ};
 ghost use Rattle.lookup.specs.Lookup.{is_record_inside};
+ghost use Rattle.kinds.specs.declared.state.Messages.{Messages};
 ghost use Rattle.walk.specs.State.{state_inside};
 ghost use Rattle.walk.specs.Walk.{fresh, elements_by, tested_from, element_said, element_behind};
 ghost use Rattle.walk.specs.Whole.{StepPost, NextPost, Accepted, Whole};
 ghost use Rattle.walk.specs.Said.{dense_said_by};
-ghost use Rattle.walk.specs.Moves.{ended_walk, refused_step, Turns};
+ghost use Rattle.walk.specs.Moves.{ended_walk, refused_step, among_messages, moves_to, Turns};
 
 use crate::inside::state_inside;
 use crate::moves::{behind_kind, enter, messages_of};
@@ -66,11 +67,12 @@ fn say_dense(nodes: DenseNodeIter, columns: DenseColumns) -> ElementStep
     }
 }
 
-// One turn of a state, which stays where it is among plain dense nodes and among messages.
+// One turn of a state, which stays where it is among plain dense nodes. Messages stay too: `advance` makes their turns itself.
 // Each arm binds what its case alone has.
 fn turn(buffer: &[u8], block: WireBlock, state: BlockElementsIter) -> Move
     requires { (is_record_inside buffer.now block ≡ true) × (state_inside buffer.now block state ≡ true) }
-    ensures { Turns buffer.now block state result }
+    ensures turns { ((m : Messages) → state ≢ among_messages m) → Turns buffer.now block state result }
+    ensures messages { (m : Messages) → state ≡ among_messages m → result ≡ moves_to state }
 {
     match state {
         BlockElementsIter::Ended => return move_out(),

@@ -110,10 +110,6 @@ module _ (s : List ℕ) (r : WireBlock) {w : BlockElementsIter} {q : Move} where
   pub turns_here : {d : DenseNodeIter} → w ≡ walk.DenseNodes d → q ≡ moves_to w → state_inside s r w ≡ true → Turns s r w q
   turns_here {d} e is h = turns_as e (quiet_moved s r (walk.DenseNodes d) (is ∙ ap moves_to e) (sym (ap (state_inside s r) e) ∙ h) (omega arith) refl)
 
-  -- and so do messages
-  pub turns-kind : {m : Messages} → w ≡ walk.Messages m → q ≡ moves_to w → state_inside s r w ≡ true → Turns s r w q
-  turns-kind {m} e is h = turns_as e (quiet_moved s r (walk.Messages m) (is ∙ ap moves_to e) (sym (ap (state_inside s r) e) ∙ h) (omega arith) refl)
-
 -- ---- 14 before anything is read
 
 module _ (s : List ℕ) (r : WireBlock) (w : BlockElementsIter) where
@@ -130,13 +126,13 @@ module _ (s : List ℕ) (r : WireBlock) (w : BlockElementsIter) where
     unfolding tested_from
     both-inside h = simp (tables, h)
 
--- only plain dense nodes and messages stay
-pub moves-on : (r : WireBlock) (w : BlockElementsIter) → ((d : DenseNodeIter) → w ≡ walk.DenseNodes d → ⊥) → ((m : Messages) → w ≡ walk.Messages m → ⊥) → turns_within r w ≡ left r w
-moves-on r walk.Ended h k = refl
-moves-on r (walk.Between b) h k = refl
-moves-on r (walk.DenseNodes d) h k = absurd (h d refl)
-moves-on r (walk.FullDenseNodes d) h k = refl
-moves-on r (walk.Messages m) h k = absurd (k m refl)
+-- only plain dense nodes stay
+pub not-dense : (r : WireBlock) (w : BlockElementsIter) → ((d : DenseNodeIter) → w ≡ walk.DenseNodes d → ⊥) → turns_within r w ≡ left r w
+not-dense r walk.Ended h = refl
+not-dense r (walk.Between b) h = refl
+not-dense r (walk.DenseNodes d) h = absurd (h d refl)
+not-dense r (walk.FullDenseNodes d) h = refl
+not-dense r (walk.Messages m) h = refl
 
 -- only an ended walk is not tested
 pub not-ended : (s : List ℕ) (r : WireBlock) (w : BlockElementsIter) → (w ≡ walk.Ended → ⊥) → tested_from s r w ≡ elements_from s r w

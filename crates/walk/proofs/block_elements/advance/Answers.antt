@@ -11,7 +11,7 @@ use Rattle.walk.specs.Walk.{element_said, element_behind}
 use Rattle.walk.specs.Moves.{moves_to, moves_refused}
 use Rattle.walk.proofs.laws.Inside.{group-below}
 use Rattle.walk.proofs.laws.Steps.{messages-group, messages_refuse, messages_move, messages_say}
-use Rattle.walk.proofs.laws.Walking.{walk_begins, turn_says, turn_nearer, turn_on_lem, moves-on, among, dense-refuses, dense-says, dense_nearer, dense-on}
+use Rattle.walk.proofs.laws.Walking.{walk_begins, turn_says, turn_nearer, turn_on_lem, not-dense, among, dense-refuses, dense-says, dense_nearer, dense-on}
 use Rattle.walk.proofs.block_elements.advance.Goals as goal
 
 pub loop-state-init : goal.loop-state-init
@@ -73,10 +73,10 @@ pub turn-m-requires : goal.turn-m-requires
 turn-m-requires c = (c.requires.0, c.loop-state.invariant.inside)
 
 pub loop-state-smaller : goal.loop-state-smaller
-loop-state-smaller c = turn_nearer c.loop-state.invariant c.turn-m.ensures (moves-on c.args.block c.loop-state.state c.in_default.not-DenseNodes c.in_default.not-Messages) c.if-m.true
+loop-state-smaller c = turn_nearer c.loop-state.invariant (c.turn-m.ensures.turns c.in_default.not-Messages) (not-dense c.args.block c.loop-state.state c.in_default.not-DenseNodes) c.if-m.true
 
 pub loop-state-preserved : goal.loop-state-preserved
-loop-state-preserved c = turn_on_lem c.loop-state.invariant c.turn-m.ensures (moves-on c.args.block c.loop-state.state c.in_default.not-DenseNodes c.in_default.not-Messages) c.if-m.true
+loop-state-preserved c = turn_on_lem c.loop-state.invariant (c.turn-m.ensures.turns c.in_default.not-Messages) (not-dense c.args.block c.loop-state.state c.in_default.not-DenseNodes) c.if-m.true
 
 pub returns-else-m : goal.returns-else-m
-returns-else-m c = let said = turn_says c.loop-state.invariant c.turn-m.ensures c.if-m.false in record { says = said.0; behind = said.1 }
+returns-else-m c = let said = turn_says c.loop-state.invariant (c.turn-m.ensures.turns c.in_default.not-Messages) c.if-m.false in record { says = said.0; behind = said.1 }
