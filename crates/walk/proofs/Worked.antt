@@ -250,11 +250,14 @@ pub record Worked : Type 0 where
   pub groups-behind-infos : from (stamped 0 (column 0 0) (column 0 0) (column 0 0)) ≡ the_way_twice
   -- a wire error ends the messages of a kind quietly, where a state is among them
   pub quiet_at_a_wire_error : elements_from (0x1A ∷ 0x05 ∷ entry 0 2) (place 2 1 2) (walk.Messages (record { full = false; of = record { group = 0; start = 0; len = 2 }; kind = kind.Ways; at = 0 })) ≡ end ended
-  -- a turn of messages comes nearer to the end than they are: 6 times the groups that are left, less the phase of their kind; that of plain
-  -- dense nodes may stay
+  -- a turn comes nearer to the end than its state is: 6 times the groups that are left, less the phase in the group; plain dense nodes may stay
+  pub turn-at_the_end : turns_within both walk.Ended ≡ 0
+  pub turn-before_a_group : turns_within both (walk.Between (record { full = false; group = 1 })) ≡ 6
+  pub turn-of-dense-nodes : turns_within both (walk.DenseNodes (dense 1 4 (range 0 0))) ≡ 6
+  pub turn-of-infos : turns_within both (stamped 1 (column 0 0) (column 0 0) (column 0 0)) ≡ 5
+  pub turn-of-nodes : turns_within both (among 0 kind.Nodes 0) ≡ 10
   pub turn-of-ways : turns_within both (among 0 kind.Ways 11) ≡ 9
   pub turn-of-relations : turns_within both (among 1 kind.Relations 0) ≡ 2
-  pub turn-of-dense-nodes : turns_within both (walk.DenseNodes (dense 1 4 (range 0 0))) ≡ 6
 
 pub worked : Worked
 unfolding and_then digits varint legal tag tag_at raw_varint fixed counted length_delimited value_by field_in fields_of group_by payload unrolled mapped field_at message_from signed twos unzigzag zigzag residue wrap value_at column_from sums_from onward each column_part info_part put store view_from view view_in dense_from dense_in parts_of take_pairs little number_at group_at ahead start_of zip pairs_of nodes_of viewed_all ◌then◌ groups_from tested_from
@@ -303,9 +306,13 @@ worked =
       groups-behind-nodes = refl;
       groups-behind-infos = refl;
       quiet_at_a_wire_error = refl;
+      turn-at_the_end = refl;
+      turn-before_a_group = refl;
+      turn-of-dense-nodes = refl;
+      turn-of-infos = refl;
+      turn-of-nodes = refl;
       turn-of-ways = refl;
       turn-of-relations = refl;
-      turn-of-dense-nodes = refl;
     }
 
 -- ---- runs: what answers do not hand out a list
